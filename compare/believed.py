@@ -1,8 +1,9 @@
 #!/usr/bin/env python3
 """What a reader must believe, worked out from the sources.
 
-Follows every definition that the contracts of the exported calls (crates/selector/src/lib.rt) cite, and every one that
-the statements of the theorems (STATEMENTS) cite, down to the last. The files of specs/ so met must be the files that
+Follows every definition that the contracts of the calls (crates/selector/src/lib.rt) cite, and every one that the
+statements of the theorems (STATEMENTS) cite, down to the last. The exports to C (crates/selector_c/src/lib.rt) have the
+calls' parameters and clauses, word for word, over the same definitions. The files of specs/ so met must be the files that
 docs/ARCHITECTURE.md lists under "What a reader must believe", and no others; and they must have fewer lines than its
 limit. Prints the counts; exit status 1 where the document differs.
 
@@ -32,21 +33,18 @@ STATEMENTS = [
 # record read by its types alone, which L5 is held against.
 STATED = {
     ("numeric", "Rounding"): {"PastMidpoint"},
-    ("plan", "Selector"): {"nesting", "nestingAll"},
+    ("plan", "Selector"): {"nesting", "nesting_all"},
     ("rules", "Kinds"): {"kinds"},
-    ("rules", "Promotion"): {"leafAt", "integerAt", "isIntegerCode", "promotes"},
-    ("values", "Marked"): {"valueMarked"},
-    ("values", "Record"): {"recordFrom", "recordOf", "RecordFits", "RecordFilled"},
+    ("rules", "Promotion"): {"leaf_at", "integer_at", "is_integer_code", "promotes"},
+    ("values", "Marked"): {"value_marked"},
+    ("values", "Record"): {"record_from", "record_of", "RecordFits", "RecordFilled"},
 }
 
 # Document 02's list as it is printed, to which a computed test holds the rule: cited by the test alone.
 PRINTED = "crates/rules/specs/PrintedList.antt"
 
 WORD = re.compile(r"[^\s(){}\[\],;.λ]+")
-USE = re.compile(
-    r"^(?:ghost |pub )?use Rattle·([a-z]+)(?:·specs|·proofs)?\.(specs|proofs\.proofs|proofs)\.([\w.+-]+)\.\{([^}]*)\}",
-    re.M,
-)
+USE = re.compile(r"^(?:ghost |pub )?use Rattle\.([a-z_]+)\.(specs|proofs)\.([\w.+-]+)\.\{([^}]*)\}", re.M)
 HEAD = re.compile(
     r"^(?:unfoldable |abbrev |opaque )*(?:pub )?(?:(record|data) )?([^\s(:{]+)(?:\s+[({][^)}]*[)}])*\s+:(?:\s|$)"
 )
@@ -64,7 +62,7 @@ class Module:
             for name in names.replace("\n", " ").split(","):
                 if name.strip():
                     there, _, here = name.strip().partition(" as ")
-                    self.names[(here or there).strip()] = (crate, kind.split(".")[0], module, there.strip())
+                    self.names[(here or there).strip()] = (crate, kind, module, there.strip())
         self.words = {}
         self.owner = {}
         self.scan(text)
@@ -87,7 +85,7 @@ class Module:
             if head:
                 current, is_type = head.group(2), bool(head.group(1))
                 self.words.setdefault(current, set())
-                self.owner.update((part, current) for part in current.split("_") if part and "_" in current)
+                self.owner.update((part, current) for part in current.split("◌") if part and "◌" in current)
             elif part:
                 self.owner[part.group(1)] = current
             if current:
@@ -106,6 +104,8 @@ def modules():
 
 def resolve(all_modules, place, word):
     """The definition that a word names inside a file, or None where it is no definition of ours."""
+    if place not in all_modules:
+        return None
     module = all_modules[place]
     if word in module.words:
         return (place, word)
@@ -133,14 +133,38 @@ def followed(all_modules, starts):
     return seen
 
 
+def imported(text):
+    """What a source's clauses may name: each import's module, and the name there."""
+    return {((crate, "specs", module), name.strip()) for crate, _, module, names in USE.findall(text)
+            for name in names.split(",")}
+
+
 def cited_by_calls(all_modules):
-    """The definitions that the exported calls' contracts name."""
-    text = (CRATES / "selector/src/lib.rt").read_text()
-    for crate, kind, module, names in USE.findall(text):
-        for name in names.split(","):
-            found = resolve(all_modules, (crate, "specs", module), name.strip().partition(" as ")[0])
-            if found:
-                yield found
+    """The definitions that the calls' contracts name."""
+    for place, name in imported((CRATES / "selector/src/lib.rt").read_text()):
+        found = resolve(all_modules, place, name.partition(" as ")[0])
+        if found:
+            yield found
+
+
+def promised(pattern, text):
+    """Each function's parameters and clauses, wherever its lines are broken."""
+    return {name: " ".join(re.sub(r",\s*\)", ")", re.sub(r"\(\s+", "(", said)).split())
+            for name, said in re.findall(pattern, text, re.M | re.S)}
+
+
+def same_exports():
+    """Whether each call is exported with its own parameters and clauses, and no other function is."""
+    library = (CRATES / "selector/src/lib.rt").read_text()
+    thin = (CRATES / "selector_c/src/lib.rt").read_text()
+    calls = promised(r"^pub fn (\w+)(.*?)^\{", library)
+    exports = promised(r'^#\[unsafe\(no_mangle\)\]\npub extern "C" fn (\w+)(.*?)^\{', thin)
+    for name in sorted(calls.keys() | exports.keys()):
+        if calls.get(name) != exports.get(name):
+            print(f"crates/selector_c: {name} is not the call of this name, with its parameters and clauses")
+    for place, name in sorted(imported(thin) - imported(library)):
+        print(f"crates/selector_c: {name} is not what crates/selector means by it")
+    return calls == exports and imported(thin) <= imported(library)
 
 
 def statements(text):
@@ -225,6 +249,7 @@ def main():
     tables = listed()
     good = len(tables) == 2 and all([compare("contracts", calls, tables[0]), compare("theorems", theorems, tables[1])])
     good = apart(calls | theorems) and good
+    good = same_exports() and good
     good = all_cited(all_modules, by_calls | by_theorems) and good
     print(f"to be believed: {len(calls)} files, {count['calls']} lines for the calls; "
           f"{len(theorems)} more, {count['theorems']} lines, for the theorems")

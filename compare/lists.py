@@ -300,7 +300,7 @@ def camel(name):
 # The definition that the builders are proved to follow.
 def definition(_, policy):
     file = "crates/rules/specs/Policies.antt"
-    bits = re.findall(r"«(\w+)» = (?:\w+ \()?bit (\d+) word\)?;", read(file))
+    bits = re.findall(r"^ +(\w+) = (?:\w+ \()?bit (\d+) word\)?;$", read(file), re.M)
     compare(file, "policy", policy.named("name"), {name: int(bit) for name, bit in bits})
 
 

@@ -1,7 +1,7 @@
 /* How a controller uses the library: a plan is built and checked once for two layouts, then run for every record that
  * arrives.
  *
- *   rt staticlib selector
+ *   compare/library
  *   cc -std=c11 -Iinclude -o controller examples/controller.c target/staticlib/libselector.a
  */
 #include <stdio.h>

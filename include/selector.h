@@ -1,5 +1,4 @@
-/* The column selector for C and C++: the functions of libselector.a, which `rt staticlib selector` makes for x86-64
- * Linux.
+/* The column selector for C and C++: the functions of libselector.a, which `compare/library` makes for x86-64 Linux.
  *
  * A controller receives its neighbour's record, laid out as the neighbour lays it out, and puts every reading into its
  * own layout. A plan, built once from the two layouts, says how; a run of the plan does it for one record.

@@ -1,5 +1,5 @@
-//! Links libselector.a, which `rt staticlib selector` writes to target/staticlib of the repository. `SELECTOR_LIBRARY`
-//! names another folder.
+//! Links libselector.a, which `compare/library` writes to target/staticlib of the repository. `SELECTOR_LIBRARY` names
+//! another folder.
 
 use std::env;
 use std::path::PathBuf;
@@ -15,7 +15,7 @@ fn main() {
     println!("cargo::rerun-if-changed={}", library.display());
     if !library.is_file() {
         println!(
-            "cargo::error={} is not there: run `rt staticlib selector` in the repository first",
+            "cargo::error={} is not there: run `compare/library` in the repository first",
             library.display()
         );
     }

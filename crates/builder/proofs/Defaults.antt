@@ -12,7 +12,7 @@ use Rattle.store.proofs.Holds.{holds_exact, holds-before, holds-append, holds-ov
 use Rattle.layout.specs.Bytes.{Bytes, AllBytes}
 use Rattle.layout.specs.Parser.{ok, choose}
 use Rattle.layout.specs.Tree.{LeafType, Label, ColumnType, cleaf, cstruct, clist, carray, Columns, ccons, DataType, leaf, dtype_of}
-use Rattle.layout.specs.Layout.{Head, a_struct_lem, a_list, an_array, kind}
+use Rattle.layout.specs.Layout.{Head, a_struct, a_list, an_array, kind}
 use Rattle.layout.specs.code.Answers.{head_res, leaf_at, moved_of}
 use Rattle.layout.specs.code.Stands.{TypeAt}
 use Rattle.layout.specs.declared.columns.FieldId.{FieldId}
@@ -206,7 +206,7 @@ module _ (d : Defaults) (i : FieldId) {v : Edition} {n : ℕ} {s : Bytes} {at : 
 pub struct-after : {v : Edition} {d : ℕ} {s : Bytes} {at : ℕ} (P : TypeAt v d s at) {p : HeadSpan} {n : ℕ} {c : Cursor} → head_res s p ≡ kind s at → p ≡
     HeadSpan.Struct n c → at < c.at
 unfolding kind_form u16_bytes
-struct-after {s = s} P {n = n} e f = let h = (head-is P (a_struct_lem n) (sym e ∙ ap (head_res s) f)).1 in omega arith
+struct-after {s = s} P {n = n} e f = let h = (head-is P (a_struct n) (sym e ∙ ap (head_res s) f)).1 in omega arith
 
 -- ---- a struct's default, where the fields' answer is X
 

@@ -10,7 +10,7 @@ use lib.Dec.{eqb}
 use Rattle.layout.specs.Bytes.{Bytes}
 use Rattle.layout.specs.Parser.{Res, ok}
 use Rattle.layout.specs.Tree.{LeafType, leaf_type, leaf_of, Label, ColumnType, cleaf, cstruct, clist, carray, Columns, dtype_of}
-use Rattle.layout.specs.Layout.{Head, a_leaf, a_struct_lem, a_list, an_array, kind, element_label}
+use Rattle.layout.specs.Layout.{Head, a_leaf, a_struct, a_list, an_array, kind, element_label}
 use Rattle.layout.specs.code.Answers.{head_res, HeadIn, leaf_at, label_at, span_at, SpanIn}
 use Rattle.layout.specs.code.Parts.{ElementRead, PartsIs}
 use Rattle.layout.specs.code.Stands.{TypeAt, ColumnsAt}
@@ -53,19 +53,19 @@ use Rattle.builder.specs.declared.parts.ElementPart.{ElementPart}
 
 abbrev is_leaf_kind : Head → Bool
 is_leaf_kind (a_leaf l) = true
-is_leaf_kind (a_struct_lem n) = false
+is_leaf_kind (a_struct n) = false
 is_leaf_kind a_list = false
 is_leaf_kind (an_array w) = false
 
 abbrev is_struct_kind : Head → Bool
 is_struct_kind (a_leaf l) = false
-is_struct_kind (a_struct_lem n) = true
+is_struct_kind (a_struct n) = true
 is_struct_kind a_list = false
 is_struct_kind (an_array w) = false
 
 abbrev pub has_element : Head → Bool
 has_element (a_leaf l) = false
-has_element (a_struct_lem n) = false
+has_element (a_struct n) = false
 has_element a_list = true
 has_element (an_array w) = true
 
@@ -196,7 +196,7 @@ module _ {v : Edition} {d : ℕ} {s : Bytes} {at : ℕ} (P : TypeAt v d s at) {p
   unfolding struct_part kind_form u16_bytes
   struct-taken {n} {c} f =
       let S = struct_at P e f in
-      let (_, h, w) = head-is P (a_struct_lem n) (sym e ∙ ap (head_res s) f) in
+      let (_, h, w) = head-is P (a_struct n) (sym e ∙ ap (head_res s) f) in
       subst (λ (t : ColumnType). StructPartIs v d s at (struct_part t) P.end (StructPart.Is n c)) (sym S.is)
       (record { count = n; start = c; is = refl; inner = S.inner; columns = refl; ends = S.ends; after = omega arith; within = w })
 

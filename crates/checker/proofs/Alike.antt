@@ -7,7 +7,7 @@ use native.Mathlib.Omega.{arith}
 use Rattle.layout.specs.Bytes.{Bytes, same_bytes}
 use Rattle.layout.specs.Parser.{ok}
 use Rattle.layout.specs.Tree.{Label, Columns, DataType, struct, list, array, Fields, fcons, count_fields, dtype_of, fields_of}
-use Rattle.layout.specs.Layout.{Head, kind, a_leaf, a_struct_lem, a_list, an_array, label, columns as columns_of_of, type}
+use Rattle.layout.specs.Layout.{Head, kind, a_leaf, a_struct, a_list, an_array, label, columns as columns_of_of, type}
 use Rattle.layout.specs.code.Answers.{span_at, label_res}
 use Rattle.layout.specs.code.Stands.{TypeAt, ColumnsAt}
 use Rattle.layout.specs.declared.columns.Label.{Label as LabelSpan}
@@ -44,7 +44,7 @@ use Rattle.checker.proofs.Fields.{column-there}
 use Rattle.checker.proofs.Headed.{from-mapping}
 use Rattle.walk.proofs.Children.{ChildAt}
 use Rattle.checker.proofs.Children.{made_more, made-named}
-use Rattle.checker.proofs.Fitting.{is_struct_lem, is_list_lem, is-array, element_part, array_element-part, drop_fields, drop-next, drop_all}
+use Rattle.checker.proofs.Fitting.{is_struct_mapping, is_list_mapping, is-array, element_part, array_element-part, drop_fields, drop-next, drop_all}
 
 -- ---- answers
 
@@ -83,16 +83,16 @@ raw-ends T Q e f = f ∙ ap ends_from e ∙ ends_from_lem _ _ _ ∙ ap (λ (u : 
 
 code_same : (j k : Head) → (code_of j).code ≡ (code_of k).code → (code_of j).number ≡ (code_of k).number → 0 < (code_of j).code → j ≡ k
 code_same (a_leaf l) k a b f = absurd (omega arith)
-code_same (a_struct_lem n) (a_leaf l) a b f = absurd (omega arith)
-code_same (a_struct_lem n) (a_struct_lem m) a b f = ap a_struct_lem b
-code_same (a_struct_lem n) a_list a b f = absurd (omega arith)
-code_same (a_struct_lem n) (an_array w) a b f = absurd (omega arith)
+code_same (a_struct n) (a_leaf l) a b f = absurd (omega arith)
+code_same (a_struct n) (a_struct m) a b f = ap a_struct b
+code_same (a_struct n) a_list a b f = absurd (omega arith)
+code_same (a_struct n) (an_array w) a b f = absurd (omega arith)
 code_same a_list (a_leaf l) a b f = absurd (omega arith)
-code_same a_list (a_struct_lem m) a b f = absurd (omega arith)
+code_same a_list (a_struct m) a b f = absurd (omega arith)
 code_same a_list a_list a b f = refl
 code_same a_list (an_array w) a b f = absurd (omega arith)
 code_same (an_array x) (a_leaf l) a b f = absurd (omega arith)
-code_same (an_array x) (a_struct_lem m) a b f = absurd (omega arith)
+code_same (an_array x) (a_struct m) a b f = absurd (omega arith)
 code_same (an_array x) a_list a b f = absurd (omega arith)
 code_same (an_array x) (an_array w) a b f = ap an_array b
 
@@ -140,7 +140,7 @@ module _ {incoming plan : Bytes} {t : DataType} {h : TypeHead} (H : TypeHeadIs i
           → r ≡ ends_of (same_dtype t (dtype_of Q.tree)) Q.end
       unfolding same_dtype dtype_of
       structs_same y i o =
-          let (fs, (p, c)) = is_struct_lem H i in
+          let (fs, (p, c)) = is_struct_mapping H i in
           let S = struct-there i in
           o fs S.inner (subst (λ (u : DataType). MappedAt incoming m n plan q.walk u) p (from-mapping R y)) c
           ∙ ap (λ (j : ℕ). ends_of (same_fields_of fs (fields_of S.inner.columns)) j) (sym S.ends)
@@ -153,7 +153,7 @@ module _ {incoming plan : Bytes} {t : DataType} {h : TypeHead} (H : TypeHeadIs i
           → r ≡ ends_of (same_dtype t (dtype_of Q.tree)) Q.end
       unfolding same_dtype dtype_of
       lists_same i o =
-          let (u, p) = is_list_lem H i in
+          let (u, p) = is_list_mapping H i in
           let S = list-there i in
           o t (column [] u) S.element R (subst (λ (y : DataType). PartOf y 0 (column [] u)) (sym p) (element_part u))
           ∙ ap (λ (j : ℕ). ends_of (same_dtype u (dtype_of S.element.inner.tree)) j) (sym S.ends)

@@ -9,7 +9,7 @@ use lib.Dec.{leb}
 use Rattle.layout.specs.Bytes.{Bytes}
 use Rattle.layout.specs.Parser.{choose}
 use Rattle.layout.specs.Tree.{DataType, leaf, struct, list, array, Fields, count_fields, fields_of, dtype_of}
-use Rattle.layout.specs.Layout.{Head, a_leaf, a_struct_lem, a_list, an_array, type}
+use Rattle.layout.specs.Layout.{Head, a_leaf, a_struct, a_list, an_array, type}
 use Rattle.layout.specs.code.Stands.{TypeAt, ColumnsAt}
 use Rattle.layout.specs.declared.columns.Siblings.TheVariants.{Free}
 use Rattle.layout.specs.declared.edition.Edition.{Edition}
@@ -111,7 +111,7 @@ module _ {incoming : Bytes} {v : Edition} {n : ℕ} {plan : Bytes} {w : Walk} {�
 -- how many parts a head says
 abbrev pub count_of : Head → ℕ
 count_of (a_leaf l) = 0
-count_of (a_struct_lem n) = n
+count_of (a_struct n) = n
 count_of a_list = 1
 count_of (an_array w) = 1
 

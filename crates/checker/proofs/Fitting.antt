@@ -11,7 +11,7 @@ use borrow.Author.Tests.{le-leb, lt-leb, leb-true}
 use Rattle.layout.specs.Bytes.{Bytes}
 use Rattle.layout.specs.Parser.{choose}
 use Rattle.layout.specs.Tree.{DataType, leaf, struct, list, array, Fields, fnil, fcons, count_fields, dtype_of}
-use Rattle.layout.specs.Layout.{a_leaf, a_struct_lem, a_list, an_array}
+use Rattle.layout.specs.Layout.{a_leaf, a_struct, a_list, an_array}
 use Rattle.layout.specs.declared.edition.Edition.{Edition}
 use Rattle.layout.proofs.Ways.{clash}
 use Rattle.forms.specs.Form.{u16_bytes, u32_bytes, text_bytes, kind_form, form, form_fields}
@@ -268,7 +268,7 @@ made_no_leaf {incoming = incoming} {plan = plan} R e H f = go (from-mapping R e)
     go (made_array a b c d) q = clash (cc)
 
 -- what a head says of the type
-pub head-struct : (t : DataType) {n : ℕ} → a_struct_lem n ≡ head_of t → (fs : Fields) × ((t ≡ struct fs) × (count_fields fs ≡ n))
+pub head-struct : (t : DataType) {n : ℕ} → a_struct n ≡ head_of t → (fs : Fields) × ((t ≡ struct fs) × (count_fields fs ≡ n))
 unfolding head_of
 head-struct (leaf l) e = clash (cc)
 head-struct (struct fs) e = (fs, (refl, cc))
@@ -302,22 +302,22 @@ module _ {incoming plan : Bytes} {t : DataType} {h : TypeHead} (H : TypeHeadIs i
   kind-is : {k : TypeHead} → h ≡ k → head_kind incoming plan k ≡ head_of t
   kind-is e = sym (ap (head_kind incoming plan) e) ∙ H.kind
 
-  pub is_struct_lem : {n : ℕ} → h ≡ TypeHead.Struct n → (fs : Fields) × ((t ≡ struct fs) × (count_fields fs ≡ n))
-  is_struct_lem e = head-struct t (kind-is e)
+  pub is_struct_mapping : {n : ℕ} → h ≡ TypeHead.Struct n → (fs : Fields) × ((t ≡ struct fs) × (count_fields fs ≡ n))
+  is_struct_mapping e = head-struct t (kind-is e)
 
-  pub is_list_lem : h ≡ TypeHead.List → (u : DataType) × (t ≡ list u)
-  is_list_lem e = head-list t (kind-is e)
+  pub is_list_mapping : h ≡ TypeHead.List → (u : DataType) × (t ≡ list u)
+  is_list_mapping e = head-list t (kind-is e)
 
   pub is-array : {w : ℕ} → h ≡ TypeHead.Array w → (u : DataType) × (t ≡ array w u)
   is-array e = head-array t (kind-is e)
 
   pub struct-short : {n : ℕ} (l r : ℕ) → h ≡ TypeHead.Struct n → r < 3 → Fit.Over ≡ type_fit t l r
-  struct-short l r e k = let (fs, (q, c)) = is_struct_lem e in fit_struct-short fs l r k ∙ ap (λ (u : DataType). type_fit u l r) (sym q)
+  struct-short l r e k = let (fs, (q, c)) = is_struct_mapping e in fit_struct-short fs l r k ∙ ap (λ (u : DataType). type_fit u l r) (sym q)
 
   -- a mapping makes it
   pub struct_asks : {v : Edition} {m : ℕ} {q : Resolved} {n : ℕ} → ResolvedAt incoming v m plan q t → q.source ≡ Source.Mapped → h ≡ TypeHead.Struct n
       → (fs : Fields) × MappedAt incoming v m plan q.walk (struct fs) × (count_fields fs ≡ n)
-  struct_asks {v} {m} {q} R z e = let (fs, (p, c)) = is_struct_lem e in (
+  struct_asks {v} {m} {q} R z e = let (fs, (p, c)) = is_struct_mapping e in (
     fs,
     subst (λ (u : DataType). MappedAt incoming v m plan q.walk u) p
         (from-mapping R z),
@@ -327,20 +327,20 @@ module _ {incoming plan : Bytes} {t : DataType} {h : TypeHead} (H : TypeHeadIs i
   module _ {v : Edition} {m : ℕ} {q : Resolved} {n : ℕ} {f : Fit} (l r : ℕ) (R : ResolvedAt incoming v m plan q t) (y : q.source ≡ Source.Mapped)
       (e : h ≡ TypeHead.Struct n)
       (g : (fs : Fields) → MappedAt incoming v m plan q.walk (struct fs) → count_fields fs ≡ n → f ≡ fields_fit_of fs (l - 1) (r - 3)) where
-    struct_fields : f ≡ fields_fit_of (is_struct_lem e).0 (l - 1) (r - 3)
-    struct_fields = let (fs, (p, c)) = is_struct_lem e in g fs (subst (λ (u : DataType). MappedAt incoming v m plan q.walk u) p (from-mapping R y)) c
+    struct_fields : f ≡ fields_fit_of (is_struct_mapping e).0 (l - 1) (r - 3)
+    struct_fields = let (fs, (p, c)) = is_struct_mapping e in g fs (subst (λ (u : DataType). MappedAt incoming v m plan q.walk u) p (from-mapping R y)) c
 
     pub struct_bounded : Bounded (l - 1) (r - 3) f
-    struct_bounded = let fs = (is_struct_lem e).0 in fit_bounded (depth_of_fields (is_struct_lem e).0) (length (form_fields (is_struct_lem e).0)) (l - 1)
+    struct_bounded = let fs = (is_struct_mapping e).0 in fit_bounded (depth_of_fields (is_struct_mapping e).0) (length (form_fields (is_struct_mapping e).0)) (l - 1)
         (r - 3) struct_fields
 
     pub struct-fits : {x : Fit} → x ≡ around_of 3 f → 0 < l → 3 ≤ r → x ≡ type_fit t l r
-    struct-fits o z k = let (fs, (p, c)) = is_struct_lem e in o ∙ ap (around_of 3) struct_fields ∙ fit_struct (is_struct_lem e).0 l r z k ∙ ap (λ
+    struct-fits o z k = let (fs, (p, c)) = is_struct_mapping e in o ∙ ap (around_of 3) struct_fields ∙ fit_struct (is_struct_mapping e).0 l r z k ∙ ap (λ
         (u : DataType). type_fit u l r) (sym p)
 
   module _ {v : Edition} {m : ℕ} {q : Resolved} (R : ResolvedAt incoming v m plan q t) where
     pub list_asks : h ≡ TypeHead.List → (u : DataType) × (a : Column) × ResolvedAt incoming v m plan q u × PartOf u 0 a
-    list_asks e = let (u, p) = is_list_lem e in (t, column [] u, R, subst (λ (y : DataType). PartOf y 0 (column [] u)) (sym p) (element_part u))
+    list_asks e = let (u, p) = is_list_mapping e in (t, column [] u, R, subst (λ (y : DataType). PartOf y 0 (column [] u)) (sym p) (element_part u))
 
     pub array_asks : {w : ℕ} → h ≡ TypeHead.Array w → (u : DataType) × (a : Column) × ResolvedAt incoming v m plan q u × PartOf u 0 a
     array_asks {w} e = let (u, p) = is-array e in (t, column [] u, R, subst (λ (y : DataType). PartOf y 0 (column [] u)) (sym p) (array_element-part w u))
@@ -349,7 +349,7 @@ module _ {incoming plan : Bytes} {t : DataType} {h : TypeHead} (H : TypeHeadIs i
         → ((u : DataType) (a : Column) → ResolvedAt incoming v m plan q u → PartOf u 0 a → f ≡ fit_of (depth_of a.type + 1) (1 + length (form
         a.type)) l r) → f ≡ type_fit t l r
     list-fits l r e g =
-        let (u, p) = is_list_lem e in
+        let (u, p) = is_list_mapping e in
         g t (column [] u) R (subst (λ (y : DataType). PartOf y 0 (column [] u)) (sym p) (element_part u)) ∙ fit_list u l r ∙ ap (λ
         (y : DataType). type_fit y l r) (sym p)
 

@@ -113,7 +113,7 @@ pub record PartGives (fs gs : Fields) (k : ℕ) (s : Selector) : Type 0 where
   pub passes : type_of fs s ≡ gives column
   pub found : column_at gs k ≡ gives column
 
-pub part_gives : {fs gs : Fields} {ss : Selectors} {k : ℕ} {s : Selector} → Nth ss k s → types_of fs ss ≡ gives gs → PartGives fs gs k s
+pub part_gives : {fs : Fields} {ss : Selectors} {k : ℕ} {s : Selector} {gs : Fields} → Nth ss k s → types_of fs ss ≡ gives gs → PartGives fs gs k s
 unfolding types_of column_at
 part_gives s_here e =
     let (c, p, q) = bind_gives _ _ e in

@@ -6,7 +6,7 @@ use native.Mathlib.Omega.{arith}
 use Rattle.layout.specs.Bytes.{Bytes}
 use Rattle.layout.specs.Parser.{ok}
 use Rattle.layout.specs.Tree.{DataType, array, dtype_of}
-use Rattle.layout.specs.Layout.{Head, kind, a_leaf, a_struct_lem, an_array}
+use Rattle.layout.specs.Layout.{Head, kind, a_leaf, a_struct, an_array}
 use Rattle.layout.specs.code.Answers.{head_res, HeadIn, leaf_at, SpanIn}
 use Rattle.layout.specs.declared.bytes.Span.{Span}
 use Rattle.layout.specs.declared.columns.Position.{Position}
@@ -28,7 +28,7 @@ use Rattle.walk.specs.code.Walks.{WalkAt, rank, StepsTo}
 use Rattle.walk.specs.declared.walk.Walk.{Walk}
 use Rattle.walk.specs.declared.head.SelectorHead.{SelectorHead}
 use Rattle.walk.specs.declared.head.StructFields.{StructFields}
-use Rattle.walk.proofs.Heads.{is_position_lem, is-constant, is-cast, is-rename, is_struct_lem, is_list_lem, is-array}
+use Rattle.walk.proofs.Heads.{is_position_lem, is-constant, is-cast, is-rename, is_struct_mapping, is_list_mapping, is-array}
 use Rattle.walk.proofs.View.{selectors-counted}
 use Rattle.nodes.specs.code.Typed.{TypeIs}
 use Rattle.direct.specs.code.Places.{bytes_of}
@@ -191,12 +191,12 @@ module _ {incoming : Bytes} {v : Edition} {n : ℕ} {plan : Bytes} {w : Walk} {t
       (g : (P : SelectorAt plan c.at) (Q : CountedAt plan P.end) → CountedIs plan P.end Q f)
       → TypeHeadIs incoming plan t (TypeHead.Struct f.count)
   made_struct-is {f = f} e g =
-      let S = is_struct_lem h e in
+      let S = is_struct_mapping h e in
       let q = (g S.input S.fields).count in
-      record { kind = ap a_struct_lem (q ∙ sym (selectors-counted _ S.fields.selectors)) ∙ made_struct-head M.made (place_is S.is); inside = tt }
+      record { kind = ap a_struct (q ∙ sym (selectors-counted _ S.fields.selectors)) ∙ made_struct-head M.made (place_is S.is); inside = tt }
 
   pub made_list-is : {c : Cursor} → r ≡ SelectorHead.List c → TypeHeadIs incoming plan t TypeHead.List
-  made_list-is e = record { kind = made_list-head M.made (place_is (is_list_lem h e).is); inside = tt }
+  made_list-is e = record { kind = made_list-head M.made (place_is (is_list_mapping h e).is); inside = tt }
 
   pub made_array_asks : {c : Cursor} → r ≡ SelectorHead.Array c → (x : ℕ) × (u : DataType) × MappedAt incoming v n plan w (array x u)
   made_array_asks e =

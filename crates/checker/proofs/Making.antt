@@ -4,7 +4,7 @@ use mathlib.Core.Path.{◌≡◌, refl, sym, ap, ◌∙◌, subst}
 use mathlib.Core.List.{[], ◌∷◌}
 use native.Mathlib.Omega.{arith}
 use Rattle.layout.specs.Tree.{DataType, struct, array, Fields, count_fields}
-use Rattle.layout.specs.Layout.{a_struct_lem, a_list}
+use Rattle.layout.specs.Layout.{a_struct, a_list}
 use Rattle.layout.proofs.Ways.{clash}
 use Rattle.forms.specs.code.Heads.{head_of}
 use Rattle.plan.specs.Result.{gives}
@@ -29,12 +29,12 @@ made_ends (made_array a b c d) = refl
 
 -- ---- the head
 
-pub made_struct-head : {Γ : Fields} {x : State} {t : DataType} {s : Selector} {ss : Selectors} → Made Γ x t → x.selector ≡ struct_mapping s ss → a_struct_lem
+pub made_struct-head : {Γ : Fields} {x : State} {t : DataType} {s : Selector} {ss : Selectors} → Made Γ x t → x.selector ≡ struct_mapping s ss → a_struct
     (count_selectors ss) ≡ head_of t
 unfolding head_of
 made_struct-head {ss = ss} (made_struct {ss = rs} {fs = fs} {gs = gs} a b c d) e =
     let q : rs ≡ ss = cc in
-    ap a_struct_lem (ap count_selectors (sym q) ∙ sym (types_count fs rs d))
+    ap a_struct (ap count_selectors (sym q) ∙ sym (types_count fs rs d))
 made_struct-head (made_list a b c d) e = clash (cc)
 made_struct-head (made_array a b c d) e = clash (cc)
 

@@ -34,7 +34,7 @@ use Rattle.walk.specs.code.Parts.{HeadIs, TextAt, NameIs}
 use Rattle.walk.specs.code.Walks.{WalkAt, rank, StepsTo}
 use Rattle.walk.specs.declared.walk.Walk.{Walk}
 use Rattle.walk.specs.declared.head.SelectorHead.{SelectorHead}
-use Rattle.walk.proofs.Heads.{is_position_lem, is-constant, is-cast, is-rename, is_struct_lem, is_list_lem, is-array}
+use Rattle.walk.proofs.Heads.{is_position_lem, is-constant, is-cast, is-rename, is_struct_mapping, is_list_mapping, is-array}
 use Rattle.nodes.specs.code.Typed.{TypeIs}
 use Rattle.checker.specs.code.Shallow.{Shallow}
 use Rattle.direct.specs.code.Places.{bytes_of, NameAt}
@@ -200,7 +200,7 @@ module _ {incoming : Bytes} {v : Edition} {n : ℕ} {plan : Bytes} {w : Walk} {a
 
   pub own_struct : {c : Cursor} → r ≡ SelectorHead.Struct c → OwnNameIs incoming v n plan w a OwnName.Input
   own_struct e =
-      let C = is_struct_lem h e in
+      let C = is_struct_mapping h e in
       let G = struct-gives (gives_so C.is) in
       record {
         answer = record {
@@ -216,7 +216,7 @@ module _ {incoming : Bytes} {v : Edition} {n : ℕ} {plan : Bytes} {w : Walk} {a
 
   pub own_list : {c : Cursor} → r ≡ SelectorHead.List c → OwnNameIs incoming v n plan w a OwnName.Input
   own_list e =
-      let C = is_list_lem h e in
+      let C = is_list_mapping h e in
       let G = list-gives (gives_so C.is) in
       record {
         answer = record {
@@ -264,7 +264,7 @@ module _ {incoming : Bytes} {v : Edition} {n : ℕ} {plan : Bytes} {w : Walk} {t
   pub mapped-field : {c : Cursor} → r ≡ SelectorHead.Struct c → MappedNameIs incoming v n plan w k a PartName.Child
   unfolding parts_of
   mapped-field e =
-      let (gs, q) = made_fields M.made (place_is (is_struct_lem h e).is) in
+      let (gs, q) = made_fields M.made (place_is (is_struct_mapping h e).is) in
       record {
         answer = record {
           fields = gs;
@@ -275,7 +275,7 @@ module _ {incoming : Bytes} {v : Edition} {n : ℕ} {plan : Bytes} {w : Walk} {t
       }
 
   pub mapped-list : {c : Cursor} {m : Name} → r ≡ SelectorHead.List c → ((i j : Bytes) → NameAt i j m []) → MappedNameIs incoming v n plan w k a (PartName.Is m)
-  mapped-list e g = record { answer = unnamed (list_part_lem t (made_list-head M.made (place_is (is_list_lem h e).is)) P) g }
+  mapped-list e g = record { answer = unnamed (list_part_lem t (made_list-head M.made (place_is (is_list_mapping h e).is)) P) g }
 
   pub mapped-array : {c : Cursor} {m : Name} → r ≡ SelectorHead.Array c → ((i j : Bytes) → NameAt i j m []) → MappedNameIs incoming v n plan w k a
       (PartName.Is m)

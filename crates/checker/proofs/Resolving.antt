@@ -24,7 +24,7 @@ use Rattle.walk.specs.code.Walks.{WalkAt, rank, Located, StepsTo}
 use Rattle.walk.specs.code.Parts.{HeadIs}
 use Rattle.walk.specs.declared.walk.Walk.{Walk}
 use Rattle.walk.specs.declared.head.SelectorHead.{SelectorHead}
-use Rattle.walk.proofs.Heads.{is_position_lem, is-constant, is-cast, is-rename, is_struct_lem, is_list_lem, is-array}
+use Rattle.walk.proofs.Heads.{is_position_lem, is-constant, is-cast, is-rename, is_struct_mapping, is_list_mapping, is-array}
 use Rattle.checker.specs.code.TypesAt.{ColumnAlong, TypedAt, NamedAt, SourceAt, Resolves, StoppedAt, RenameStop, StopAnswer, StopIs}
 use Rattle.checker.specs.declared.resolve.Stop.{Stop}
 use Rattle.checker.specs.declared.resolve.Source.{Source}
@@ -112,7 +112,7 @@ module _ {incoming : Bytes} {v : Edition} {n : ℕ} {plan : Bytes} where
             standing = T.standing;
             shallow = T.shallow;
             made = struct_stop_lem S.stopped
-                (place_is (is_struct_lem h e).is) T.typed;
+                (place_is (is_struct_mapping h e).is) T.typed;
           };
         }
 
@@ -126,7 +126,7 @@ module _ {incoming : Bytes} {v : Edition} {n : ℕ} {plan : Bytes} where
             standing = T.standing;
             shallow = T.shallow;
             made = list_stop_lem S.stopped
-                (place_is (is_list_lem h e).is) T.typed;
+                (place_is (is_list_mapping h e).is) T.typed;
           };
         }
 

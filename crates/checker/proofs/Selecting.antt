@@ -56,7 +56,7 @@ use Rattle.walk.proofs.Children.{ChildAt, part-stands, passed-more}
 use Rattle.checker.proofs.Checks.{result_is, bind_refused, bind_gives, bind_known, PassedAs, passed-gives, refused-refuses}
 use Rattle.walk.proofs.View.{selector-longer}
 use Rattle.checker.proofs.Within.{fields-limited, list-limited, array-limited, element-limited, within_fit_lem, transform_within}
-use Rattle.checker.proofs.Fitting.{is_struct_lem, is_list_lem, is-array, fit_struct, fit_list, fit_array, rest-start, rest-none, rest_more, added_bounded}
+use Rattle.checker.proofs.Fitting.{is_struct_mapping, is_list_mapping, is-array, fit_struct, fit_list, fit_array, rest-start, rest-none, rest_more, added_bounded}
 
 abbrev ToInput : Walk → Walk → Type 0
 ToInput w x = (p : Bytes) (z : State) (s : Selector) → WalkAt p w z → Input z.selector s → StepsTo p (state s z.frames z.path) w x
@@ -113,8 +113,8 @@ module _ {incoming : Bytes} {v : Edition} {n : ℕ} {plan : Bytes} {w : Walk} {s
   pub transform_is : {r b : Bool} → r ≡ is_transform C.standing.here.tree → r ≡ b → is_transform s ≡ b
   transform_is e f = ap is_transform (sym C.standing.selector) ∙ sym e ∙ f
 
-  pub no_transform : {B : Type 0} {t : Selector} → is_transform s ≡ false → C.standing.here.tree ≡ t → is_transform t ≡ true → B
-  no_transform f e h = absurd (true≢false (sym h ∙ ap is_transform (sym (stands-for e)) ∙ f))
+  pub no_transform_lem : {B : Type 0} {t : Selector} → is_transform s ≡ false → C.standing.here.tree ≡ t → is_transform t ≡ true → B
+  no_transform_lem f e h = absurd (true≢false (sym h ∙ ap is_transform (sym (stands-for e)) ∙ f))
 
   module _ {r : SelectorHead} (h : HeadIs plan w.at C.standing.here r) where
     pub checks-position : {k : Position} {q : Measured} → r ≡ SelectorHead.Position k → q ≡ measured_of false (column_at Δ k.0) → q ≡ measured_of false
@@ -374,10 +374,10 @@ module _ (a : Column) where
   unfolding check_rename
   a_rename n e = e
 
-  pub a_struct : (ss : Selectors) {fs : Fields} → a.type ≡ struct fs → {r : Measured} → r ≡ measured_of true (fields_result fs ss a.name)
+  pub a_struct_lem : (ss : Selectors) {fs : Fields} → a.type ≡ struct fs → {r : Measured} → r ≡ measured_of true (fields_result fs ss a.name)
       → r ≡ measured_of true (check_struct (λ fs. types_of fs ss) a)
   unfolding check_struct struct_of ◌>>=◌
-  a_struct ss e f = rw e f
+  a_struct_lem ss e f = rw e f
 
   pub a_list_lem : (e : Selector) {t : DataType} → a.type ≡ list t → {r : Measured} → r ≡ measured_of true (element_result t e (λ u. list u) a.name)
       → r ≡ measured_of true (check_list (λ fs. type_of fs e) a)
@@ -436,7 +436,7 @@ module _ {incoming : Bytes} {v : Edition} {n : ℕ} {plan : Bytes} {w x : Walk} 
       go : (h : TypeHead) → TypeHeadIs incoming plan R.column.type h → r ≡ fields_left h count → RestIs incoming v n plan w within s Δ r
       go (TypeHead.Leaf p l) H e = rest_as e (refused H (λ z. omega arith))
       go (TypeHead.Struct k) H e =
-          let (fs, (q, j)) = is_struct_lem H refl in
+          let (fs, (q, j)) = is_struct_mapping H refl in
           rest_as e (record {
             input = K.input.tree;
             parts = K.fields.selectors.trees;
@@ -445,7 +445,7 @@ module _ {incoming : Bytes} {v : Edition} {n : ℕ} {plan : Bytes} {w x : Walk} 
             mapping = input-mapping R T K.is q;
             counted = c;
             columns = record { count = j; limited = λ b. fields-limited fs (ap within_limits (sym q) ∙ R.limited b) };
-            left = sym (input-given R T (a_struct R.column K.fields.selectors.trees q refl));
+            left = sym (input-given R T (a_struct_lem R.column K.fields.selectors.trees q refl));
           })
       go TypeHead.List H e = rest_as e (refused H (λ z. omega arith))
       go (TypeHead.Array k) H e = rest_as e (refused H (λ z. omega arith))
@@ -465,7 +465,7 @@ module _ {incoming : Bytes} {v : Edition} {n : ℕ} {plan : Bytes} {w x : Walk} 
       go (TypeHead.Leaf p l) H e = rest_as e (refused H (λ z. omega arith))
       go (TypeHead.Struct k) H e = rest_as e (refused H (λ z. omega arith))
       go TypeHead.List H e =
-          let (u, q) = is_list_lem H refl in
+          let (u, q) = is_list_mapping H refl in
           rest_as e (record {
             element = u;
             selector = K.element.tree;

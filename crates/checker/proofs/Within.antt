@@ -11,7 +11,7 @@ use borrow.Author.Tests.{leb-true, le-leb}
 use Rattle.layout.specs.Bytes.{Bytes}
 use Rattle.layout.specs.Parser.{choose}
 use Rattle.layout.specs.Tree.{Columns, DataType, struct, list, array, Fields, fnil, fcons, count_fields, fields_of, dtype_of}
-use Rattle.layout.specs.Layout.{deepest, a_struct_lem, a_list, an_array}
+use Rattle.layout.specs.Layout.{deepest, a_struct, a_list, an_array}
 use Rattle.layout.specs.code.Stands.{ColumnsAt}
 use Rattle.layout.specs.declared.columns.Siblings.TheVariants.{Free}
 use Rattle.layout.specs.declared.edition.Edition.{Edition}
@@ -65,7 +65,7 @@ unfolding depth_of form
 fields-limited fs e = record {
   each = λ k a h.
       let (p, q) = column_smaller fs k h in
-      let l = length-append (kind_form (a_struct_lem (count_fields fs))) (form_fields fs) in
+      let l = length-append (kind_form (a_struct (count_fields fs))) (form_fields fs) in
       no_larger (struct fs) a.type (omega arith) (omega arith) e;
 }
 

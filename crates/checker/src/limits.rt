@@ -252,8 +252,8 @@ fn fields_fit(
     tables: &[u16],
 ) -> Fit
     requires tables { Tables incoming.now v n plan.now tables.now }
-    requires mapped_at { (fs : Fields) × MappedAt incoming.now v n plan.now w (#[cycle(fs)] struct fs) × (count_fields fs ≡ count) }
-    ensures { (fs : Fields) → MappedAt incoming.now v n plan.now w (#[cycle(fs)] struct fs) → count_fields fs ≡ count → result ≡ fields_fit_of fs levels room }
+    requires mapped_at { (fs : Fields) × MappedAt incoming.now v n plan.now w (struct fs) × (count_fields fs ≡ count) }
+    ensures { (fs : Fields) → MappedAt incoming.now v n plan.now w (struct fs) → count_fields fs ≡ count → result ≡ fields_fit_of fs levels room }
 {
     let mut c = first_child(plan, w, tables);
     let mut size: usize = 0;

@@ -249,9 +249,9 @@ fn same_fields(
     tables: &[u16],
 ) -> Ends
     requires tables { Tables incoming.now v n plan.now tables.now }
-    requires mapped_at { (fs : Fields) × MappedAt incoming.now v n plan.now w (#[cycle(same_fs)] struct fs) × (count_fields fs ≡ count) }
+    requires mapped_at { (fs : Fields) × MappedAt incoming.now v n plan.now w (struct fs) × (count_fields fs ≡ count) }
     requires columns_at { ColumnsAt place.edition place.depth target.now count place.at.at }
-    ensures { (fs : Fields) (Q : ColumnsAt place.edition place.depth target.now count place.at.at) → MappedAt incoming.now v n plan.now w (#[cycle(same_fs)] struct fs) → count_fields fs ≡ count → result ≡ ends_of (same_fields_of fs (fields_of Q.columns)) Q.end }
+    ensures { (fs : Fields) (Q : ColumnsAt place.edition place.depth target.now count place.at.at) → MappedAt incoming.now v n plan.now w (struct fs) → count_fields fs ≡ count → result ≡ ends_of (same_fields_of fs (fields_of Q.columns)) Q.end }
 {
     let mut c = first_child(plan, w, tables);
     let mut at = place.at;

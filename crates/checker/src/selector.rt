@@ -406,8 +406,8 @@ fn check_fields(
     tables: &[u16],
 ) -> Measured
     requires tables { Tables incoming.now v n plan.now tables.now }
-    requires mapping_at { (i : Selector) × (ss : Selectors) × (fs : Fields) × MappingAt incoming.now v n plan.now w (struct_mapping i ss) i (#[cycle(selector_fs)] struct fs) × (count_selectors ss ≡ count) × ScopeIs scope fs }
-    ensures { (i : Selector) (ss : Selectors) (fs : Fields) (name : Bytes) → MappingAt incoming.now v n plan.now w (struct_mapping i ss) i (#[cycle(selector_fs)] struct fs) → count_selectors ss ≡ count → ScopeIs scope fs → result ≡ measured_of true (fields_result fs ss name) }
+    requires mapping_at { (i : Selector) × (ss : Selectors) × (fs : Fields) × MappingAt incoming.now v n plan.now w (struct_mapping i ss) i (struct fs) × (count_selectors ss ≡ count) × ScopeIs scope fs }
+    ensures { (i : Selector) (ss : Selectors) (fs : Fields) (name : Bytes) → MappingAt incoming.now v n plan.now w (struct_mapping i ss) i (struct fs) → count_selectors ss ≡ count → ScopeIs scope fs → result ≡ measured_of true (fields_result fs ss name) }
 {
     let mut c = first_child(plan, w, tables);
     let mut fields = Fit::Within(0, 0);

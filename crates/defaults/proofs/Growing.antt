@@ -7,7 +7,7 @@ use native.Mathlib.Omega.{arith}
 use Rattle.layout.specs.Bytes.{Bytes}
 use Rattle.layout.specs.Parser.{Res, refuse, ok, Parser, next, choose, byte, chunk, u16}
 use Rattle.layout.specs.Tree.{LeafType, leaf_of, leaf}
-use Rattle.layout.specs.Layout.{Head, a_leaf, a_struct_lem, a_list, an_array, plain_leaf, text, unit, leaf_head, datetime_head, decimal_params, decimal_head}
+use Rattle.layout.specs.Layout.{Head, a_leaf, a_struct, a_list, an_array, plain_leaf, text, unit, leaf_head, datetime_head, decimal_params, decimal_head}
 use Rattle.layout.specs.declared.leaf.Leaf.{Leaf}
 use Rattle.layout.specs.declared.types.PlainLeaf.{PlainLeaf}
 use Rattle.layout.specs.declared.types.PlainLeaf.TheVariants.{Known, Unknown}
@@ -91,7 +91,7 @@ module _ (s : Bytes) where
   only-leaf-ends : (k : Head) (at : ℕ) → Ends at (only_leaf k s at)
   unfolding only_leaf
   only-leaf-ends (a_leaf l) at = ends-ok (omega arith)
-  only-leaf-ends (a_struct_lem n) at = ends-refuse
+  only-leaf-ends (a_struct n) at = ends-refuse
   only-leaf-ends a_list at = ends-refuse
   only-leaf-ends (an_array w) at = ends-refuse
 

@@ -8,7 +8,7 @@ use Rattle.std.specs.Prelude.{ℕ, zero, suc, List, [], ◌∷◌, ◌++◌, Boo
 use Rattle.layout.specs.Bytes.{Bytes, same_bytes}
 use Rattle.layout.specs.Parser.{Res, refuse, ok, Parser, next, choose, ◌>>=◌, ◌>>◌, pure, fail, test, if, byte, u16, u32}
 use Rattle.layout.specs.Tree.{LeafType, leaf}
-use Rattle.layout.specs.Layout.{Head, a_leaf, a_struct_lem, a_list, an_array, plain_leaf, leaf_head, datetime_head, decimal_head, sized, ended}
+use Rattle.layout.specs.Layout.{Head, a_leaf, a_struct, a_list, an_array, plain_leaf, leaf_head, datetime_head, decimal_head, sized, ended}
 use Rattle.layout.specs.declared.columns.FieldId.{FieldId}
 use Rattle.values.specs.Value.{Value, Values}
 use Rattle.values.specs.Reading.{value, times}
@@ -83,7 +83,7 @@ repeats_any_entry e (f ∷ fs) = repeats_owned e f || repeats_any_entry e fs
 
 unfoldable pub only_leaf : Head → Parser LeafType
 only_leaf (a_leaf l) = pure l
-only_leaf (a_struct_lem n) = fail 3
+only_leaf (a_struct n) = fail 3
 only_leaf a_list = fail 3
 only_leaf (an_array w) = fail 3
 

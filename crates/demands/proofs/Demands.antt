@@ -1,5 +1,5 @@
--- Demands 1 and 3, sentence by sentence, over bytes and in the terms of the exported calls' contracts: `checkPlan`,
--- `runPlan`, `bufferAfter` (crate plan, specs/Calls.antt), `buildByName`, `buildByNumber` (crate matching,
+-- Demands 1 and 3, sentence by sentence, over bytes and in the terms of the exported calls' contracts: `check_plan_of`,
+-- `run_plan`, `buffer_after` (crate plan, specs/Calls.antt), `build_by_name`, `build_by_number` (crate matching,
 -- specs/Calls.antt). `AllBytes` says that a list's numbers are below 256, as those of every lent slice are. Assumes
 -- nothing.
 use Prim.Native.Nat.{ℕ, ◌<◌, ◌^◌}
@@ -64,7 +64,7 @@ use Rattle.demands.proofs.Extra.{by_name_raised, by_name_raises, name_ignoring, 
 
 -- ---- Demand 1: "No input, however broken, stops a call, and nothing is written by a refused one: it returns its
 -- number from document 01 and every lent buffer is unchanged." A call's contract (crate selector) has no `requires`,
--- and gives its answer and its buffer at exit by these definitions for all bytes; `bufferAfter` is what stands in the
+-- and gives its answer and its buffer at exit by these definitions for all bytes; `buffer_after` is what stands in the
 -- buffer.
 
 pub refused-unchanged : (n k : ℕ) (buffer : Bytes) → buffer_after (refused_at n k) buffer ≡ buffer
@@ -74,7 +74,7 @@ refused-unchanged n k buffer = refl
 pub accepted-written : (result buffer : Bytes) → buffer_after (accepted result) buffer ≡ result ++ drop (length result) buffer
 accepted-written result buffer = refl
 
--- "It returns its number from document 01": a refused call's number is in the call's list (`refusalsOf`) and never 0,
+-- "It returns its number from document 01": a refused call's number is in the call's list (`refusals_of`) and never 0,
 -- and it is met at k: of 1 to 6 and 50 the first layout or table that is refused, which is refused with this number; of
 -- 11 to 26, 28, 51, 54 and 55 a position below the number of the target's columns, of 31 and 32 below that of the
 -- plan's top selectors; of 53 below the number of the incoming columns; of all others 0 (`Refusal`,
@@ -281,7 +281,7 @@ module _ (p : Policy) (index owner : ℕ) (incoming target defaults : Bytes) (sp
 -- builders' plans pass the check.
 
 -- "An accepted plan must never give null to a required field": what the run of a plan that passed writes fits the
--- target (`run-passed`), and no null of what fits stands in a required field, at whatever level (`FilledAll`, crate
+-- target (`run_passed`), and no null of what fits stands in a required field, at whatever level (`FilledAll`, crate
 -- values)
 module _ {lay rec : Bytes} (F : FitsLayout lay rec) where
   pub required-filled : FilledAll required_of (columns_of_of F) F.values

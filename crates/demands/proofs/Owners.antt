@@ -27,7 +27,7 @@ use Rattle.demands.specs.Stated.{SameEntries, bare}
 
 -- ---- "For any two accepted tables, of either version, that have the same entries of one owner (owner bytes aside) in
 -- the same order, that owner's builds, all else equal, agree in plan, refusal and place." The entries of an owner are
--- `entriesOf` (crate defaults, specs/Table.antt); an answer is the plan, or the refusal and its place.
+-- `entries_of` (crate defaults, specs/Table.antt); an answer is the plan, or the refusal and its place.
 
 module _ (p : Policy) (index owner : ℕ) (incoming target : Bytes) (space : ℕ) {left right : Bytes} (S : SameEntries owner left right) where
   pub by_number-owned : build_by_number p index owner incoming target left space ≡ build_by_number p index owner incoming target right space

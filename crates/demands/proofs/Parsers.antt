@@ -6,7 +6,7 @@ use mathlib.Core.List.{List, [], ◌∷◌, ◌++◌}
 use Rattle.layout.specs.Bytes.{Bytes}
 use Rattle.layout.specs.Parser.{Res, refuse, ok, Parser, choose, byte, chunk, u16, u32}
 use Rattle.layout.specs.Tree.{LeafType, leaf_of, Label, ColumnType, cleaf, cstruct, clist, carray, Columns, cnil, ccons, leaf}
-use Rattle.layout.specs.Layout.{Head, a_leaf, a_struct_lem, a_list, an_array, plain_leaf, text, unit, leaf_head, datetime_head, decimal_params, decimal_head}
+use Rattle.layout.specs.Layout.{Head, a_leaf, a_struct, a_list, an_array, plain_leaf, text, unit, leaf_head, datetime_head, decimal_params, decimal_head}
 use Rattle.layout.specs.Layout.{struct_head, array_head, kind_of, kind, field_id, required_mark, field_mark, label_rest, label, element_label, columns, list_type}
 use Rattle.layout.specs.Layout.{array_type, struct_type, body}
 use Rattle.layout.specs.Layout.{type, top_rule, inner_rule, deepest, edition, sized, ended, counted, layout_from, layout}
@@ -36,7 +36,7 @@ use Rattle.plan.specs.Read.{plan_from, plan}
 use Rattle.demands.specs.Refusals.{is_in, layout_refusals, table_refusals, record_refusals}
 use Rattle.demands.proofs.Refusing.{all, RefusesIn, in_ok, in_refuse, next_in, choose_in, wider, renumber_in}
 
--- a value's numbers, which a record has in its own (`recordNumber`)
+-- a value's numbers, which a record has in its own (`record_number`)
 abbrev pub value_refusals : List ℕ
 value_refusals = 2 ∷ 3 ∷ 52 ∷ []
 
@@ -44,7 +44,7 @@ value_refusals = 2 ∷ 3 ∷ 52 ∷ []
 abbrev marked_refusals : List ℕ
 marked_refusals = 56 ∷ value_refusals
 
--- an entry's numbers, before 50 and 52 are 3 (`tableNumber`)
+-- an entry's numbers, before 50 and 52 are 3 (`table_number`)
 abbrev entry_refusals : List ℕ
 entry_refusals = 50 ∷ 52 ∷ table_refusals
 
@@ -158,7 +158,7 @@ module _ (s : Bytes) where
     body-in : (k : Head) (at : ℕ) → RefusesIn layout_refusals (body v r p k s at)
     unfolding body struct_type list_type array_type
     body-in (a_leaf l) at = in_ok
-    body-in (a_struct_lem n) at = next_in (columns-in n [] at) (λ cs i. in_ok)
+    body-in (a_struct n) at = next_in (columns-in n [] at) (λ cs i. in_ok)
     body-in a_list at = next_in (element-label-in v at) (λ l i. next_in (o i) (λ t j. in_ok))
     body-in (an_array w) at = next_in (element-label-in v at) (λ l i. next_in (o i) (λ t j. in_ok))
 
@@ -238,7 +238,7 @@ module _ (s : Bytes) where
   only-leaf-in : (k : Head) (at : ℕ) → RefusesIn table_refusals (only_leaf k s at)
   unfolding only_leaf is_in
   only-leaf-in (a_leaf l) at = in_ok
-  only-leaf-in (a_struct_lem n) at = in_refuse refl
+  only-leaf-in (a_struct n) at = in_refuse refl
   only-leaf-in a_list at = in_refuse refl
   only-leaf-in (an_array w) at = in_refuse refl
 

@@ -84,9 +84,9 @@ module _ {p : Policy} {d : Defaults} {incoming target bytes rec : Bytes} (B : Bu
         G.reads).0)
         (output-reads (built_runs B (record_fits B or F) room) (sym (run_is B or F room) ∙ ran))
 
--- For every plan that `buildByNumber` writes, with the owner's entries of the defaults table that was read, and every
+-- For every plan that `build_by_number` writes, with the owner's entries of the defaults table that was read, and every
 -- record that fits the incoming layout: where the run accepts, the record that it writes, read with the target's
--- layout, is the reading of the row. (That it fits the target's layout is `run-passed`, Demands.antt.) Whether a null
+-- layout, is the reading of the row. (That it fits the target's layout is `run_passed`, Demands.antt.) Whether a null
 -- partition value is present and which fields default to `{}` or `[]` is free.
 module _ (p : Policy) (index owner : ℕ) (incoming target defaults rec : Bytes) (oi : AllBytes incoming) (ot : AllBytes target) (od : AllBytes defaults)
     (or : AllBytes rec) (space : ℕ) {bytes : Bytes} (built : build_by_number p index owner incoming target defaults space ≡ accepted bytes)

@@ -8,7 +8,7 @@ use lib.Dec.{eqb}
 use Rattle.layout.specs.Bytes.{Bytes}
 use Rattle.layout.specs.Parser.{ok}
 use Rattle.layout.specs.Tree.{LeafType, leaf_type, leaf_of, DataType, leaf, struct, list, array, dtype_of}
-use Rattle.layout.specs.Layout.{Head, kind, a_leaf, a_struct_lem, a_list, an_array}
+use Rattle.layout.specs.Layout.{Head, kind, a_leaf, a_struct, a_list, an_array}
 use Rattle.layout.specs.code.Answers.{head_res, HeadIn, leaf_at, SpanIn}
 use Rattle.layout.specs.code.Stands.{TypeAt}
 use Rattle.layout.specs.declared.cursor.Cursor.{Cursor}
@@ -74,7 +74,7 @@ kind_of_lem {s = s} {at = at} Q {p} {q} e i {k} {m} g =
 
 abbrev pub is_nested : Head → Bool
 is_nested (a_leaf l) = false
-is_nested (a_struct_lem n) = true
+is_nested (a_struct n) = true
 is_nested a_list = true
 is_nested (an_array w) = true
 

@@ -85,9 +85,9 @@ module _ {s : Bytes} {v : Edition} {scope : Scope} {index : List ℕ} {stride : 
   pub scope-element : {c : Cursor} → scope ≡ Scope.Element c → ElementIs s v c.at X.fields
   scope-element e = in_scope e
 
-pub in_element : {s : Bytes} {v : Edition} {at : ℕ} {Γ : Fields} {r : Taken} (E : ElementIs s v at Γ) (k : Position) → TakenIs s v
+pub in_element_lem : {s : Bytes} {v : Edition} {at : ℕ} {Γ : Fields} {r : Taken} (E : ElementIs s v at Γ) (k : Position) → TakenIs s v
     (column_at (element_of (dtype_of E.type.tree)) k.0) r → TakenIs s v (column_at Γ k.0) r
-in_element {s} {v} {r = r} E k T = subst (λ (fs : Fields). TakenIs s v (column_at fs k.0) r) E.are T
+in_element_lem {s} {v} {r = r} E k T = subst (λ (fs : Fields). TakenIs s v (column_at fs k.0) r) E.are T
 
 pub position_taken : {s : Bytes} {v : Edition} (Γ : Fields) {x : Selector} {k : Position} {r : Taken} → x ≡ position k → TakenIs s v (column_at Γ k.0)
     r → TakenIs s v (type_of Γ x) r

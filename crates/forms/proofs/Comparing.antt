@@ -14,7 +14,7 @@ use Rattle.layout.specs.Bytes.{Bytes, same_bytes, AllBytes}
 use Rattle.layout.specs.Parser.{Res, refuse, ok, next, Parser, test}
 use Rattle.layout.specs.Tree.{LeafType, Label, ColumnType, cleaf, cstruct, clist, carray, Columns, cnil, ccons, DataType, Fields, fnil, fcons, dtype_of}
 use Rattle.layout.specs.Tree.{fields_of}
-use Rattle.layout.specs.Layout.{Head, a_leaf, a_struct_lem, a_list, an_array, kind, body, struct_type, list_type, array_type, label, element_label, columns, type}
+use Rattle.layout.specs.Layout.{Head, a_leaf, a_struct, a_list, an_array, kind, body, struct_type, list_type, array_type, label, element_label, columns, type}
 use Rattle.layout.specs.Layout.{repeats_any}
 use Rattle.layout.specs.code.Answers.{span_at, SpanIn, head_res, leaf_at, label_res, label_at}
 use Rattle.layout.specs.code.Stands.{TypeAt, ColumnsAt}
@@ -126,10 +126,10 @@ pub record ArrayIs (v : Edition) (d : ℕ) (s : Bytes) (at : ℕ) (P : TypeAt v 
   pub ends : P.end ≡ element.inner.end
 
 module _ {v : Edition} {d : ℕ} {s : Bytes} {at : ℕ} (P : TypeAt v d s at) {m : ℕ} where
-  pub struct_known : {n : ℕ} → kind s at ≡ ok (a_struct_lem n) m → StructIs v d s at P n m
+  pub struct_known : {n : ℕ} → kind s at ≡ ok (a_struct n) m → StructIs v d s at P n m
   unfolding body struct_type
   struct_known {n} q =
-      let (cs, e, h, g) = next-ok _ _ (behind P (a_struct_lem n) q) in
+      let (cs, e, h, g) = next-ok _ _ (behind P (a_struct n) q) in
       let (a, b) = ok_eq g in
       record { inner = record { columns = cs; end = e; reads = h }; is = sym a; ends = sym b }
 

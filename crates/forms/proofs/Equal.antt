@@ -9,7 +9,7 @@ use lib.Dec.{eqb}
 use borrow.Author.Tests.{eq-eqb, eqb-true}
 use Rattle.layout.specs.Bytes.{Bytes, same_bytes}
 use Rattle.layout.specs.Tree.{LeafType, leaf_type, datetime, decimal, DataType, leaf, struct, list, array, Fields, fnil, fcons, count_fields}
-use Rattle.layout.specs.Layout.{Head, a_leaf, a_struct_lem, a_list, an_array, plain_leaf}
+use Rattle.layout.specs.Layout.{Head, a_leaf, a_struct, a_list, an_array, plain_leaf}
 use Rattle.layout.specs.declared.leaf.Leaf.{Leaf}
 use Rattle.layout.specs.declared.leaf.Decimal.{Decimal}
 use Rattle.layout.specs.declared.leaf.TimeUnit.{TimeUnit}
@@ -124,19 +124,19 @@ leaf-code l r {c} {q} e m = go (leaf_case l)
 pub kind_eq : (k j : Head) {r q : Bytes} → kind_form k ++ r ≡ kind_form j ++ q → (k ≡ j) × (r ≡ q)
 unfolding kind_form
 kind_eq (a_leaf a) (a_leaf b) e = let (p, q) = leaf_eq a b e in (ap a_leaf p, q)
-kind_eq (a_leaf a) (a_struct_lem n) e = absurd (omega (arith, leaf-code a _ e (omega arith)))
+kind_eq (a_leaf a) (a_struct n) e = absurd (omega (arith, leaf-code a _ e (omega arith)))
 kind_eq (a_leaf a) a_list e = absurd (omega (arith, leaf-code a _ e (omega arith)))
 kind_eq (a_leaf a) (an_array w) e = absurd (omega (arith, leaf-code a _ e (omega arith)))
-kind_eq (a_struct_lem m) (a_leaf b) e = absurd (omega (arith, leaf-code b _ (sym e) (omega arith)))
-kind_eq (a_struct_lem m) (a_struct_lem n) e = let (p, q) = u16_eq m n (tail_eq e) in (ap a_struct_lem p, q)
-kind_eq (a_struct_lem m) a_list e = absurd (omega (arith, head_eq e))
-kind_eq (a_struct_lem m) (an_array w) e = absurd (omega (arith, head_eq e))
+kind_eq (a_struct m) (a_leaf b) e = absurd (omega (arith, leaf-code b _ (sym e) (omega arith)))
+kind_eq (a_struct m) (a_struct n) e = let (p, q) = u16_eq m n (tail_eq e) in (ap a_struct p, q)
+kind_eq (a_struct m) a_list e = absurd (omega (arith, head_eq e))
+kind_eq (a_struct m) (an_array w) e = absurd (omega (arith, head_eq e))
 kind_eq a_list (a_leaf b) e = absurd (omega (arith, leaf-code b _ (sym e) (omega arith)))
-kind_eq a_list (a_struct_lem n) e = absurd (omega (arith, head_eq e))
+kind_eq a_list (a_struct n) e = absurd (omega (arith, head_eq e))
 kind_eq a_list a_list e = (refl, tail_eq e)
 kind_eq a_list (an_array w) e = absurd (omega (arith, head_eq e))
 kind_eq (an_array v) (a_leaf b) e = absurd (omega (arith, leaf-code b _ (sym e) (omega arith)))
-kind_eq (an_array v) (a_struct_lem n) e = absurd (omega (arith, head_eq e))
+kind_eq (an_array v) (a_struct n) e = absurd (omega (arith, head_eq e))
 kind_eq (an_array v) a_list e = absurd (omega (arith, head_eq e))
 kind_eq (an_array v) (an_array w) e = let (p, q) = u32_eq v w (tail_eq e) in (ap an_array p, q)
 

@@ -7,7 +7,7 @@ use lib.ListN.{length, length-append}
 use Rattle.layout.specs.Bytes.{Bytes}
 use Rattle.layout.specs.Parser.{Res, refuse, ok, Parser}
 use Rattle.layout.specs.Tree.{LeafType, ColumnType, Columns, cnil, ccons, count_columns, count_fields, dtype_of, fields_of}
-use Rattle.layout.specs.Layout.{Head, a_leaf, a_struct_lem, a_list, an_array, kind, body, struct_type, list_type, array_type, type}
+use Rattle.layout.specs.Layout.{Head, a_leaf, a_struct, a_list, an_array, kind, body, struct_type, list_type, array_type, type}
 use Rattle.layout.specs.code.Answers.{head_res}
 use Rattle.layout.specs.code.Stands.{TypeAt}
 use Rattle.layout.specs.declared.cursor.Cursor.{Cursor}
@@ -59,7 +59,7 @@ count_fields_lem (ccons l t cs) = ap suc (count_fields_lem cs)
 head-some : (k : Head) → 0 < length (kind_form k)
 unfolding kind_form leaf_form
 head-some (a_leaf l) = omega arith
-head-some (a_struct_lem n) = omega arith
+head-some (a_struct n) = omega arith
 head-some a_list = omega arith
 head-some (an_array w) = omega arith
 
@@ -68,11 +68,11 @@ head-is : (v : Edition) (r : Siblings) (p : Parser ColumnType) (k : Head) (s : B
     head_of (dtype_of c)
 unfolding body struct_type list_type array_type dtype_of head_of
 head-is v r p (a_leaf l) s m h = let q = (ok_eq h).0 in rw (← q)
-head-is v r p (a_struct_lem n) s m h =
+head-is v r p (a_struct n) s m h =
     let (cs, i, g, f) = next-ok _ _ h in
     let q = (ok_eq f).0 in
     let z : n ≡ count_fields (fields_of cs) = sym (columns-count v r p n [] s m cs i g) ∙ sym (count_fields_lem cs) in
-    rw (← q) (ap a_struct_lem z)
+    rw (← q) (ap a_struct z)
 head-is v r p a_list s m h =
     let (l, i, g, f) = next-ok _ _ h in
     let (t, j, g₁, f₁) = next-ok _ _ f in

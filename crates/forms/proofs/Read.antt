@@ -10,7 +10,7 @@ use borrow.Author.Tests.{ltb-true, leb-true, eqb-true}
 use Rattle.layout.specs.Bytes.{Bytes, AllBytes}
 use Rattle.layout.specs.Parser.{Res, refuse, ok, next, choose, Parser, byte, chunk, u16, u32, test}
 use Rattle.layout.specs.Tree.{LeafType, leaf_type, datetime, decimal, Label, ColumnType, cleaf, cstruct, clist, carray, Columns, cnil, ccons}
-use Rattle.layout.specs.Layout.{Head, a_leaf, a_struct_lem, a_list, an_array, text, unit, valid_decimal, decimal_params, plain_leaf, leaf_head, datetime_head, decimal_head}
+use Rattle.layout.specs.Layout.{Head, a_leaf, a_struct, a_list, an_array, text, unit, valid_decimal, decimal_params, plain_leaf, leaf_head, datetime_head, decimal_head}
 use Rattle.layout.specs.Layout.{struct_head, array_head, kind_of, kind, field_id, required_mark, field_mark, label_rest, label, element_label, repeats_any, columns}
 use Rattle.layout.specs.Layout.{body, struct_type, list_type, array_type, type}
 use Rattle.layout.specs.declared.leaf.TimeUnit.{TimeUnit}
@@ -183,7 +183,7 @@ pub data KindRead (s : Bytes) (at : ℕ) : Head → ℕ → Type 0 where
   kr_plain : {c m : ℕ} {l : Leaf} {k : LeafType} → byte s at ≡ ok c m → plain_leaf c ≡ Known l → leaf_type l [] ≡ k → KindRead s at (a_leaf k) m
   kr_timed : {i j m : ℕ} {u : TimeUnit} {z : Bytes} → byte s at ≡ ok 14 i → unit s i ≡ ok u j → text s j ≡ ok z m → KindRead s at (a_leaf (datetime u z)) m
   kr_scaled : {i m : ℕ} {d : Decimal} → byte s at ≡ ok 21 i → decimal_params s i ≡ ok d m → KindRead s at (a_leaf (decimal d)) m
-  kr_struct : {i n m : ℕ} → byte s at ≡ ok 18 i → u16 s i ≡ ok n m → KindRead s at (a_struct_lem n) m
+  kr_struct : {i n m : ℕ} → byte s at ≡ ok 18 i → u16 s i ≡ ok n m → KindRead s at (a_struct n) m
   kr_list : {m : ℕ} → byte s at ≡ ok 19 m → KindRead s at a_list m
   kr_array : {i w m : ℕ} → byte s at ≡ ok 20 i → u32 s i ≡ ok w m → KindRead s at (an_array w) m
 
@@ -210,7 +210,7 @@ kind→ s at {k} {m} e =
     kr_is x y (kr_timed (rw z at h) h₁ h₂)) (λ f.
     case c 18 _ _ f (λ z f.
     let (n, o, h₁, f) = next-ok _ _ f in
-    let x : a_struct_lem n ≡ k = cc in
+    let x : a_struct n ≡ k = cc in
     let y : o ≡ m = cc in
     kr_is x y (kr_struct (rw z at h) h₁)) (λ f.
     case c 19 _ _ f (λ z f.
@@ -232,7 +232,7 @@ kind→ s at {k} {m} e =
 -- what follows of a kind that was read
 abbrev pub ReadableKind : Head → Type 0
 ReadableKind (a_leaf l) = ReadableLeaf l
-ReadableKind (a_struct_lem n) = n < 65536
+ReadableKind (a_struct n) = n < 65536
 ReadableKind a_list = Unit {0}
 ReadableKind (an_array w) = w < 4294967296
 
@@ -351,7 +351,7 @@ module _ (s : Bytes) where
 mutual
   pub data TypeRead (v : Edition) (s : Bytes) : ℕ → ℕ → ColumnType → ℕ → Type 0 where
     tr_leaf : {d at e : ℕ} {l : LeafType} → KindRead s at (a_leaf l) e → TypeRead v s (suc d) at (cleaf l) e
-    tr_struct : {d at n m e : ℕ} {cs : Columns} → KindRead s at (a_struct_lem n) m → ColumnsRead v s d n m cs e → TypeRead v s (suc d) at (cstruct cs) e
+    tr_struct : {d at n m e : ℕ} {cs : Columns} → KindRead s at (a_struct n) m → ColumnsRead v s d n m cs e → TypeRead v s (suc d) at (cstruct cs) e
     tr_list : {d at m i e : ℕ} {l : Label} {t : ColumnType} → KindRead s at a_list m → element_label v s m ≡ ok l i → TypeRead v s d i t e
         → TypeRead v s (suc d) at (clist l t) e
     tr_array : {d at w m i e : ℕ} {l : Label} {t : ColumnType} → KindRead s at (an_array w) m → element_label v s m ≡ ok l i → TypeRead v s d i t e
@@ -393,7 +393,7 @@ module _ (v : Edition) (r : Siblings) (s : Bytes) where
     body→ : (k : Head) (at m : ℕ) {c : ColumnType} {e : ℕ} → KindRead s at k m → body v r (type v r d) k s m ≡ ok c e → TypeRead v s (suc d) at c e
     unfolding body struct_type list_type array_type
     body→ (a_leaf l) at m h g = let (p, q) = ok_eq g in type-is p q (tr_leaf h)
-    body→ (a_struct_lem n) at m h g =
+    body→ (a_struct n) at m h g =
         let (cs, o, h₁, f) = next-ok _ _ g in
         let (p, q) = ok_eq f in
         type-is p q (tr_struct h (columns→ n [] m h₁))

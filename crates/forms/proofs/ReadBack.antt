@@ -8,7 +8,7 @@ use lib.ListN.{length, length-append}
 use Rattle.layout.specs.Bytes.{Bytes, AllBytes}
 use Rattle.layout.specs.Parser.{ok}
 use Rattle.layout.specs.Tree.{ColumnType, cleaf, cstruct, clist, carray, Columns, cnil, ccons, dtype_of, fields_of, count_fields}
-use Rattle.layout.specs.Layout.{Head, a_leaf, a_struct_lem, a_list, an_array}
+use Rattle.layout.specs.Layout.{Head, a_leaf, a_struct, a_list, an_array}
 use Rattle.layout.specs.declared.edition.Edition.{Edition}
 use Rattle.layout.specs.declared.edition.Edition.TheVariants.{One}
 use Rattle.forms.specs.Form.{text_bytes, leaf_form, kind_form, form, form_fields}
@@ -48,7 +48,7 @@ mutual
   type_extent {v = v} {s = s} {at = at} (tr_struct {n = n} {cs = cs} h g) =
       let (p, q) = kind-ends s at h in
       let (r, c) = columns_extent g p in
-      extent_is (ap (λ (m : ℕ). length (kind_form (a_struct_lem m) ++ form_fields (fields_of cs))) c ∙ length-append (kind_form (a_struct_lem n))
+      extent_is (ap (λ (m : ℕ). length (kind_form (a_struct m) ++ form_fields (fields_of cs))) c ∙ length-append (kind_form (a_struct n))
       (form_fields (fields_of cs))) refl (around _ q (omega arith) r)
   type_extent {v = v} {s = s} {at = at} (tr_list {t = t} h l g) =
       let (p, q) = kind-ends s at h in
@@ -104,7 +104,7 @@ module _ {s : Bytes} (o : AllBytes s) where
     type-stands {at = at} (tr_struct {cs = cs} h g) =
         let H = (kind-stands s o at h).0 in
         let (n, r) = columns_stand g H.to in
-        stands_eq refl (ap (λ (m : ℕ). kind_form (a_struct_lem m) ++ form_fields (fields_of cs)) (sym n)) (stands-append H r)
+        stands_eq refl (ap (λ (m : ℕ). kind_form (a_struct m) ++ form_fields (fields_of cs)) (sym n)) (stands-append H r)
     type-stands {at = at} (tr_list {i = i} h l g) =
         stands-append (stands_eq (element-stands s _ l) refl (kind-stands s o at h).0) (type-stands g)
     type-stands {at = at} (tr_array h l g) =

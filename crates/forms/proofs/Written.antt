@@ -12,7 +12,7 @@ use Rattle.layout.specs.Bytes.{Bytes}
 use Rattle.layout.specs.Parser.{Res, ok, next, choose, byte, chunk, u16, u32}
 use Rattle.layout.specs.Tree.{LeafType, leaf_type, datetime, decimal, Label, ColumnType, cleaf, cstruct, clist, carray, Columns, cnil, ccons, DataType, leaf}
 use Rattle.layout.specs.Tree.{struct, list, array, Fields, fnil, fcons, count_fields, dtype_of, fields_of}
-use Rattle.layout.specs.Layout.{Head, a_leaf, a_struct_lem, a_list, an_array, text, unit, valid_decimal, decimal_params, plain_leaf, leaf_head, datetime_head, decimal_head}
+use Rattle.layout.specs.Layout.{Head, a_leaf, a_struct, a_list, an_array, text, unit, valid_decimal, decimal_params, plain_leaf, leaf_head, datetime_head, decimal_head}
 use Rattle.layout.specs.Layout.{struct_head, array_head, kind_of, kind, field_id, field_mark, label_rest, label, element_label, columns, body, struct_type, list_type}
 use Rattle.layout.specs.Layout.{array_type, type}
 use Rattle.layout.specs.declared.leaf.TimeUnit.{TimeUnit}
@@ -124,14 +124,14 @@ plain_at s at l r (scaled d i f) h e = rw i (scaled_at s at d r (rw i at h) (rw 
 -- what a kind asks to be read
 abbrev Shown : Head → Type 0
 Shown (a_leaf l) = ReadableLeaf l
-Shown (a_struct_lem n) = Unit {0}
+Shown (a_struct n) = Unit {0}
 Shown a_list = Unit {0}
 Shown (an_array w) = Unit {0}
 
 kind_at : (s : Bytes) (at : ℕ) (k : Head) (r : Bytes) → Shown k → drop at s ≡ kind_form k ++ r → kind s at ≡ ok k (at + length (kind_form k))
 unfolding kind kind_of struct_head array_head next choose kind_form u16_bytes u32_bytes
 kind_at s at (a_leaf l) r h e = plain_at s at l r (leaf_case l) h e
-kind_at s at (a_struct_lem n) r h e =
+kind_at s at (a_struct n) r h e =
     let z : at + 1 + 2 ≡ at + 3 = omega arith in
     rw (byte_at s at e, u16-at s (at + 1) n r (behind s at (18 ∷ []) _ e), z)
 kind_at s at a_list r h e = rw (byte_at s at e)
@@ -160,12 +160,12 @@ mutual
   type_at (leaf l) (suc d) s at r h p e = rw (kind_at s at (a_leaf l) r h e)
   type_at (struct fs) zero s at r h p e = absurd (omega arith)
   type_at (struct fs) (suc d) s at r h p e =
-      let (f, g) = parts s at (kind_form (a_struct_lem (count_fields fs))) (form_fields fs) r e in
+      let (f, g) = parts s at (kind_form (a_struct (count_fields fs))) (form_fields fs) r e in
       rw (
-        kind_at s at (a_struct_lem (count_fields fs)) (form_fields fs ++ r) tt f,
+        kind_at s at (a_struct (count_fields fs)) (form_fields fs ++ r) tt f,
         fields_at fs d s _ r [] h.1 (omega arith) g,
         ends at
-            (kind_form (a_struct_lem (count_fields fs))) (form_fields fs),
+            (kind_form (a_struct (count_fields fs))) (form_fields fs),
       )
   type_at (list t) zero s at r h p e = absurd (omega arith)
   type_at (list t) (suc d) s at r h p e =

@@ -4,7 +4,7 @@ use Rattle.std.specs.Prelude.{ℕ, ◌/◌, ◌%◌, [], ◌∷◌, ◌++◌, le
 use Rattle.layout.specs.Bytes.{Bytes}
 use Rattle.layout.specs.Tree.{LeafType, leaf_of, null, boolean, integer, float, date, datetime, string, binary, categorical, decimal, DataType, leaf, struct}
 use Rattle.layout.specs.Tree.{list, array, Fields, fnil, fcons, count_fields}
-use Rattle.layout.specs.Layout.{Head, a_leaf, a_struct_lem, a_list, an_array, code_of, unit_code}
+use Rattle.layout.specs.Layout.{Head, a_leaf, a_struct, a_list, an_array, code_of, unit_code}
 
 -- Numbers are little-endian. The last byte is not cut to eight bits: a number that fits its field has the field's bytes
 -- (`little-u16`, `little-u32`), and two numbers never have the same, whatever they are.
@@ -37,14 +37,14 @@ leaf_form l = code_of (leaf_of l) ∷ carried l
 -- what a type begins with
 unfoldable pub kind_form : Head → Bytes
 kind_form (a_leaf l) = leaf_form l
-kind_form (a_struct_lem n) = 18 ∷ u16_bytes n
+kind_form (a_struct n) = 18 ∷ u16_bytes n
 kind_form a_list = 19 ∷ []
 kind_form (an_array w) = 20 ∷ u32_bytes w
 
 unfoldable mutual
   pub form : DataType → Bytes
   form (leaf l) = leaf_form l
-  form (struct fs) = kind_form (a_struct_lem (count_fields fs)) ++ form_fields fs
+  form (struct fs) = kind_form (a_struct (count_fields fs)) ++ form_fields fs
   form (list t) = kind_form a_list ++ form t
   form (array w t) = kind_form (an_array w) ++ form t
 

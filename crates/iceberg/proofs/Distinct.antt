@@ -8,7 +8,7 @@ use borrow.Author.Tests.{eqb-false}
 use Rattle.layout.specs.Bytes.{Bytes}
 use Rattle.layout.specs.Parser.{ok, choose, Parser, test}
 use Rattle.layout.specs.Tree.{Label, ColumnType, cleaf, cstruct, clist, carray, Columns, cnil, ccons, Layout}
-use Rattle.layout.specs.Layout.{Head, a_leaf, a_struct_lem, a_list, an_array, repeats_any, columns, list_type, array_type, struct_type, body, type, top_rule, inner_rule}
+use Rattle.layout.specs.Layout.{Head, a_leaf, a_struct, a_list, an_array, repeats_any, columns, list_type, array_type, struct_type, body, type, top_rule, inner_rule}
 use Rattle.layout.specs.Layout.{deepest, counted}
 use Rattle.layout.specs.Layout.{layout_from, layout}
 use Rattle.layout.specs.declared.columns.FieldId.{FieldId}
@@ -87,7 +87,7 @@ module _ (s : Bytes) (v : Edition) where
       → body v Ids p k s at ≡ ok t m → DistinctIds t
   unfolding body struct_type list_type array_type
   body-distinct p h (a_leaf l) at e = ok_same DistinctIds e tt
-  body-distinct p h (a_struct_lem n) at e = let (cs, i, a, e) = next-ok _ _ e in ok_same DistinctIds e (columns-distinct p h n [] at a).1
+  body-distinct p h (a_struct n) at e = let (cs, i, a, e) = next-ok _ _ e in ok_same DistinctIds e (columns-distinct p h n [] at a).1
   body-distinct p h a_list at e =
       let (l, i, a, e) = next-ok _ _ e in
       let (t, j, b, e) = next-ok _ _ e in

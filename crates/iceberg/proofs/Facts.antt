@@ -12,7 +12,7 @@ use Rattle.defaults.specs.Table.{initial, partition, failed, Entry}
 use Rattle.defaults.specs.Lookup.{Taken, refused, nothing, taken, unless_null, of_source, given_to, is_partition_of, is_initial_of, get_default_value}
 use Rattle.matching.specs.Default.{Defaults, no_defaults}
 use Rattle.matching.proofs.Entries.{Match, unmatched, matched, match_of, of_match, first_match, partition-is, initial-is}
-use Rattle.iceberg.specs.Specification.{PartitionValue, no_transform_lem, partitioned, InitialDefault, undefined, defined}
+use Rattle.iceberg.specs.Specification.{PartitionValue, no_transform, partitioned, InitialDefault, undefined, defined}
 use Rattle.iceberg.specs.Differences.{Hiding, hides_not_present, hides_null, is_defined, Place, outside, inside}
 use Rattle.iceberg.specs.Stated.{of_null, tuple_at, partition_of, empty_if, initial_of, stated}
 
@@ -33,8 +33,8 @@ found_first es k i =
 pub data Facts (p : PartitionValue) (q : InitialDefault) : Taken → Type 0 where
   from_tuple : {l : LeafType} {y : Value} → p ≡ partitioned y → Facts p q (taken l y)
   none_in_tuple : {r : PartitionValue} → p ≡ r → Hiding r → Facts p q nothing
-  from-initial : {l : LeafType} {y : Value} → p ≡ no_transform_lem → q ≡ defined y → Facts p q (taken l y)
-  no_initial : p ≡ no_transform_lem → is_defined q ≡ false → Facts p q nothing
+  from-initial : {l : LeafType} {y : Value} → p ≡ no_transform → q ≡ defined y → Facts p q (taken l y)
+  no_initial : p ≡ no_transform → is_defined q ≡ false → Facts p q nothing
   never_accepted : {n : ℕ} → Facts p q (refused n)
 
 pub hiding_null : (nulls : Bool) → Hiding (of_null nulls)
@@ -54,7 +54,7 @@ tuple_facts nulls l vnil k e = none_in_tuple e hides_not_present
 tuple_facts nulls l (vcons v vs) zero e = value_facts nulls l v (is_null_value v) e
 tuple_facts nulls l (vcons v vs) (suc k) e = tuple_facts nulls l vs k e
 
-initial_facts : {p : PartitionValue} {q : InitialDefault} (l : LeafType) (v : Value) (b : Bool) → p ≡ no_transform_lem → q ≡ choose b undefined (defined v)
+initial_facts : {p : PartitionValue} {q : InitialDefault} (l : LeafType) (v : Value) (b : Bool) → p ≡ no_transform → q ≡ choose b undefined (defined v)
     → Facts p q (choose b nothing (taken l v))
 unfolding choose
 initial_facts l v true e f = no_initial e (ap is_defined f)
@@ -69,8 +69,8 @@ module _ (nulls : Bool) (es : List Entry) (k : ℕ) (empties : FieldId → Bool)
   unfolding given_to stated partition_of initial_of unless_null
   facts i = rw (found_first es k i) (go (match_of (is_partition_of i) es) refl (match_of (is_initial_of i) es) refl)
     where
-      tuple : (c : Match) → match_of (is_partition_of i) es ≡ c → (stated nulls es k empties).partition i ≡ of_match (partition_of nulls k) no_transform_lem c
-      tuple c p = first_match (is_partition_of i) (partition_of nulls k) es no_transform_lem ∙ ap (of_match (partition_of nulls k) no_transform_lem) p
+      tuple : (c : Match) → match_of (is_partition_of i) es ≡ c → (stated nulls es k empties).partition i ≡ of_match (partition_of nulls k) no_transform c
+      tuple c p = first_match (is_partition_of i) (partition_of nulls k) es no_transform ∙ ap (of_match (partition_of nulls k) no_transform) p
 
       default : (c : Match) → match_of (is_initial_of i) es ≡ c → (stated nulls es k empties).initial_default i ≡ of_match initial_of (empty_if (empties i)) c
       default c q = first_match (is_initial_of i) initial_of es _ ∙ ap (of_match initial_of (empty_if (empties i))) q

@@ -14,15 +14,15 @@ use Rattle.defaults.specs.Table.{Entry}
 use Rattle.defaults.specs.Lookup.{Taken, get_default_value}
 use Rattle.matching.specs.Default.{Default, none, some, or_null, is_some, leaf_default, FieldDefaults, with_field, struct_default, build_iceberg_default_value}
 use Rattle.matching.specs.Default.{defaults_of, missing_value, no_defaults}
-use Rattle.iceberg.specs.Specification.{PartitionValue, no_transform_lem, not_present_lem, null_present_lem, partitioned, InitialDefault, undefined, defined, empty}
-use Rattle.iceberg.specs.Specification.{Metadata, no_transform, not_present, nothing-defined, no_leafs, no_arrays, Initial, by_default, by-empty-struct}
+use Rattle.iceberg.specs.Specification.{PartitionValue, no_transform, not_present, null_present, partitioned, InitialDefault, undefined, defined, empty}
+use Rattle.iceberg.specs.Specification.{Metadata, no_transform_lem, not_present_lem, nothing-defined, no_leafs, no_arrays, Initial, by_default, by-empty-struct}
 use Rattle.iceberg.specs.Specification.{by-empty-list, by-null, InitialAll, initial-nil, initial-cons, Missing, by-partition, by-null-partition}
 use Rattle.iceberg.specs.Specification.{by-initial}
 use Rattle.iceberg.specs.Differences.{Differences, Hiding, hides_not_present, hides_null, unseen_null, unseen_value, Nested, nested_struct, nested_list}
 use Rattle.iceberg.specs.Differences.{nested_array, is_defined, leaf_valued, valued, valued_any, Place, outside, inside, Initial', by-default'}
-use Rattle.iceberg.specs.Differences.{by-empty-struct', by-none', hidden-default, struct-of-none, partition-in-struct, list-default, own_default}
+use Rattle.iceberg.specs.Differences.{by-empty-struct', by-none', hidden-default, struct-of-none, partition-in-struct, list-default, own_default_lem}
 use Rattle.iceberg.specs.Differences.{InitialAll', initial-nil', initial-cons', by-null', struct-together, Missing', by-partition', by-null-partition'}
-use Rattle.iceberg.specs.Differences.{by-initial', null-in-element', own-partition, in_element, MissingAll', missing-nil', missing-cons'}
+use Rattle.iceberg.specs.Differences.{by-initial', null-in-element', own-partition, in_element_lem, MissingAll', missing-nil', missing-cons'}
 use Rattle.iceberg.specs.Stated.{stated}
 use Rattle.iceberg.proofs.Facts.{Facts, from_tuple, none_in_tuple, from-initial, no_initial, never_accepted, facts}
 
@@ -51,14 +51,16 @@ module _ (M : Metadata) where
 
   -- one that has no value by rules 3 and 4, unless it is hidden
   module _ (i : FieldId) (l : LeafType) where
-    none-valued : is_defined (M.initial_default i) ≡ false → M.partition i ≡ no_transform_lem → valued M i (cleaf l) ≡ false
+    none-valued : is_defined (M.initial_default i) ≡ false → M.partition i ≡ no_transform → valued M i (cleaf l) ≡ false
     unfolding valued
     none-valued e p = rw p e
 
     hiding-valued : (p : PartitionValue) → M.partition i ≡ p → Hiding p → valued M i (cleaf l) ≡ false
     unfolding valued
-    hiding-valued not_present_lem e h = ap (λ (p : PartitionValue). leaf_valued p (M.initial_default i)) e
-    hiding-valued null_present_lem e h = ap (λ (p : PartitionValue). leaf_valued p (M.initial_default i)) e
+    hiding-valued not_present e h = ap (λ (p : PartitionValue). leaf_valued p (M.initial_default i)) e
+    hiding-valued null_present e h = ap (λ (p : PartitionValue). leaf_valued p (M.initial_default i)) e
+    hiding-valued no_transform e h = elim h [ ]
+    hiding-valued (partitioned _) e h = elim h [ ]
 
     null-initial : valued M i (cleaf l) ≡ false → (q : InitialDefault) → M.initial_default i ≡ q → is_defined q ≡ false → Initial' M [] i (cleaf l) vnull
     null-initial v undefined e n = by-none' e nothing-defined (by-null' v)
@@ -73,16 +75,16 @@ module _ (M : Metadata) where
 
     hidden_found : {p : PartitionValue} → M.partition i ≡ p → Hiding p → Found i (cleaf l) none
     hidden_found e hides_not_present =
-        let (ds, r) = hidden-initial not_present_lem e hides_not_present _ refl in
-        record { any = hiding-valued not_present_lem e hides_not_present; ds = ds; initial = r; es = ds; missing = by-initial' e not_present r }
+        let (ds, r) = hidden-initial not_present e hides_not_present _ refl in
+        record { any = hiding-valued not_present e hides_not_present; ds = ds; initial = r; es = ds; missing = by-initial' e not_present_lem r }
     hidden_found e hides_null =
-        let (ds, r) = hidden-initial null_present_lem e hides_null _ refl in
+        let (ds, r) = hidden-initial null_present e hides_null _ refl in
         record {
-          any = hiding-valued null_present_lem e hides_null;
+          any = hiding-valued null_present e hides_null;
           ds = ds;
           initial = r;
           es = [];
-          missing = by-null-partition' e (hiding-valued null_present_lem e hides_null);
+          missing = by-null-partition' e (hiding-valued null_present e hides_null);
         }
 
     leaf-found : {t : Taken} {x : Default} → Facts (M.partition i) (M.initial_default i) t → leaf_default l t ≡ gives x → Found i (cleaf l) x
@@ -104,21 +106,21 @@ module _ (M : Metadata) where
           ds = _;
           initial = by-default' e f;
           es = _;
-          missing = by-initial' e no_transform (by-default' e f);
+          missing = by-initial' e no_transform_lem (by-default' e f);
         })
     leaf-found (no_initial e n) q =
         let r = null-initial (none-valued n e) _ refl n in
-        rw (← gives_eq q) (record { any = none-valued n e; ds = _; initial = r; es = _; missing = by-initial' e no_transform r })
+        rw (← gives_eq q) (record { any = none-valued n e; ds = _; initial = r; es = _; missing = by-initial' e no_transform_lem r })
     leaf-found never_accepted q = never_refused q refl
 
   -- ---- a struct, list or array
 
   nested-missing : {ds : Differences} {i : FieldId} {u : ColumnType} (x : Default) → valued M i u ≡ is_some x → Nested u → Initial' M ds i u (or_null x)
       → (p : PartitionValue) → M.partition i ≡ p → Reading outside i u (or_null x)
-  nested-missing x v n r no_transform_lem e = record { differences = _; reads = by-initial' e no_transform r }
-  nested-missing x v n r not_present_lem e = record { differences = _; reads = by-initial' e not_present r }
-  nested-missing none v n r null_present_lem e = record { differences = _; reads = by-null-partition' e v }
-  nested-missing (some y) v n r null_present_lem e = record { differences = _; reads = own-partition n e v unseen_null r }
+  nested-missing x v n r no_transform e = record { differences = _; reads = by-initial' e no_transform_lem r }
+  nested-missing x v n r not_present e = record { differences = _; reads = by-initial' e not_present_lem r }
+  nested-missing none v n r null_present e = record { differences = _; reads = by-null-partition' e v }
+  nested-missing (some y) v n r null_present e = record { differences = _; reads = own-partition n e v unseen_null r }
   nested-missing x v n r (partitioned z) e = record { differences = _; reads = own-partition n e v unseen_value r }
 
   nested-found : {ds : Differences} {i : FieldId} {u : ColumnType} {x : Default} → valued M i u ≡ is_some x → Nested u → Initial' M ds i u (or_null x)
@@ -133,22 +135,22 @@ module _ (M : Metadata) where
     where
       go : (b : Bool) → valued_any M cs ≡ b → (q : InitialDefault) → M.initial_default i ≡ q → Found i (cstruct cs) (choose b (some (vstruct g.values)) none)
       go true v undefined e = nested-found v nested_struct (by-none' e nothing-defined (struct-together v F.missing))
-      go true v (defined z) e = nested-found v nested_struct (own_default nested_struct e (struct-together v F.missing))
+      go true v (defined z) e = nested-found v nested_struct (own_default_lem nested_struct e (struct-together v F.missing))
       go true v empty e = nested-found v nested_struct (by-empty-struct' e v F.initial)
       go false v undefined e = nested-found v nested_struct (by-none' e nothing-defined (by-null' v))
-      go false v (defined z) e = nested-found v nested_struct (own_default nested_struct e (by-null' v))
+      go false v (defined z) e = nested-found v nested_struct (own_default_lem nested_struct e (by-null' v))
       go false v empty e = nested-found v nested_struct (struct-of-none e v)
 
   list-found : (i : FieldId) (l : Label) (t : ColumnType) (q : InitialDefault) → M.initial_default i ≡ q → Found i (clist l t) none
   unfolding valued
   list-found i l t undefined e = nested-found refl nested_list (by-none' e nothing-defined (by-null' refl))
-  list-found i l t (defined z) e = nested-found refl nested_list (own_default nested_list e (by-null' refl))
+  list-found i l t (defined z) e = nested-found refl nested_list (own_default_lem nested_list e (by-null' refl))
   list-found i l t empty e = nested-found refl nested_list (list-default e)
 
   array-found : (i : FieldId) (w : ℕ) (l : Label) (t : ColumnType) (q : InitialDefault) → M.initial_default i ≡ q → Found i (carray w l t) none
   unfolding valued
   array-found i w l t undefined e = nested-found refl nested_array (by-none' e nothing-defined (by-null' refl))
-  array-found i w l t (defined z) e = nested-found refl nested_array (own_default nested_array e (by-null' refl))
+  array-found i w l t (defined z) e = nested-found refl nested_array (own_default_lem nested_array e (by-null' refl))
   array-found i w l t empty e = nested-found refl nested_array (by-none' e no_arrays (by-null' refl))
 
   cons-found : {l : Label} {t : ColumnType} {cs : Columns} {x : Default} {g : FieldDefaults} → Found l.id t x → FoundAll cs g
@@ -201,9 +203,9 @@ module _ (M : Metadata) where
   missing_total u i = go (M.partition i) refl
     where
       go : (p : PartitionValue) → M.partition i ≡ p → (y : Value) × Missing M i u y
-      go no_transform_lem e = (_, by-initial e no_transform (initial-total u i).1)
-      go not_present_lem e = (_, by-initial e not_present (initial-total u i).1)
-      go null_present_lem e = (_, by-null-partition e)
+      go no_transform e = (_, by-initial e no_transform_lem (initial-total u i).1)
+      go not_present e = (_, by-initial e not_present_lem (initial-total u i).1)
+      go null_present e = (_, by-null-partition e)
       go (partitioned y) e = (_, by-partition e)
 
   pub null_is : (y : Value) → is_null_value y ≡ true → y ≡ vnull
@@ -220,7 +222,7 @@ module _ (M : Metadata) where
     where
       go : (y : Value) → Missing M i u y → (b : Bool) → is_null_value y ≡ b → Reading inside i u vnull
       go y r true e = record { differences = _; reads = null-in-element' (rw (null_is y e) at r) }
-      go y r false e = record { differences = _; reads = in_element r (λ q. true≠false (ap is_null_value q) e) }
+      go y r false e = record { differences = _; reads = in_element_lem r (λ q. true≠false (ap is_null_value q) e) }
 
 -- ---- what document 01 puts
 

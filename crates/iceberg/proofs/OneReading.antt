@@ -5,22 +5,22 @@ use Prim.Native.Nat.{ℕ, suc}
 use mathlib.Core.Path.{◌≡◌, refl, sym, ap, ap₂, ◌∙◌}
 use mathlib.Core.Bool.{Bool, true, false}
 use mathlib.Core.List.{◌∷◌, ◌++◌}
-use Rattle.layout.specs.Tree.{LeafType, Label, ColumnType, cleaf, cstruct, clist, Columns}
+use Rattle.layout.specs.Tree.{LeafType, Label, ColumnType, cleaf, cstruct, clist, carray, Columns}
 use Rattle.layout.specs.declared.columns.FieldId.{FieldId}
 use Rattle.layout.proofs.Ways.{clash}
 use Rattle.values.specs.Value.{Value, vnull, vstruct, vlist, varray, Values, vcons}
 use Rattle.plan.specs.Run.{value_at}
 use Rattle.plan.proofs.Results.{true≠false}
-use Rattle.iceberg.specs.Specification.{PartitionValue, no_transform_lem, null_present_lem, partitioned, InitialDefault, defined, empty, Metadata, HasId, id-here}
-use Rattle.iceberg.specs.Specification.{id-there, Lacks, lacks_cons, Lacking, no_transform, not_present, Valueless, nothing-defined, no_leafs, no_arrays}
+use Rattle.iceberg.specs.Specification.{PartitionValue, no_transform, null_present, partitioned, InitialDefault, defined, empty, Metadata, HasId, id-here}
+use Rattle.iceberg.specs.Specification.{id-there, Lacks, lacks_cons, Lacking, no_transform_lem, not_present_lem, Valueless, nothing-defined, no_leafs, no_arrays}
 use Rattle.iceberg.specs.Specification.{Initial, by_default, by-empty-struct, by-empty-list, by-null, InitialAll, initial-nil, initial-cons, Missing}
 use Rattle.iceberg.specs.Specification.{by-partition, by-null-partition, by-initial, Reads, reads-leaf, reads-null, reads_struct, reads-list, ReadsAll}
 use Rattle.iceberg.specs.Specification.{reads-nil, reads-selected, reads-missing, ReadsEach, reads_none, reads_more}
-use Rattle.iceberg.specs.Differences.{Difference, Differences, Hiding, hides_not_present, hides_null, Unseen, unseen_null, unseen_value, Nested}
+use Rattle.iceberg.specs.Differences.{Difference, Differences, array_read, Hiding, hides_not_present, hides_null, Unseen, unseen_null, unseen_value, Nested}
 use Rattle.iceberg.specs.Differences.{leaf_valued, valued, valued_any, Place, Initial', by-default', by-empty-struct', by-none', hidden-default}
-use Rattle.iceberg.specs.Differences.{struct-of-none, partition-in-struct, list-default, own_default, InitialAll', initial-nil', initial-cons', Unstated'}
+use Rattle.iceberg.specs.Differences.{struct-of-none, partition-in-struct, list-default, own_default_lem, InitialAll', initial-nil', initial-cons', Unstated'}
 use Rattle.iceberg.specs.Differences.{by-null', struct-together, Missing', by-partition', by-null-partition', by-initial', null-in-element'}
-use Rattle.iceberg.specs.Differences.{own-partition, in_element, MissingAll', missing-nil', missing-cons', Reads', reads-leaf', reads-null'}
+use Rattle.iceberg.specs.Differences.{own-partition, in_element_lem, MissingAll', missing-nil', missing-cons', Reads', reads-leaf', reads-null'}
 use Rattle.iceberg.specs.Differences.{reads-struct', reads-list', any-element, array-read, leaf-converted, ReadsAll', reads-nil', reads-selected'}
 use Rattle.iceberg.specs.Differences.{reads-missing', ReadsEach', reads-none', reads-more'}
 use Rattle.iceberg.proofs.Distinct.{DistinctIds, DistinctIdsAll}
@@ -38,7 +38,7 @@ valueless_struct nothing-defined e = clash (cc)
 valueless_list : {l : Label} {t : ColumnType} {q : InitialDefault} {X : Type 0} → Valueless (clist l t) q → q ≡ empty → X
 valueless_list nothing-defined e = clash (cc)
 
-hiding_source : {p : PartitionValue} {X : Type 0} → Hiding p → p ≡ no_transform_lem → X
+hiding_source : {p : PartitionValue} {X : Type 0} → Hiding p → p ≡ no_transform → X
 hiding_source hides_not_present e = clash (cc)
 hiding_source hides_null e = clash (cc)
 
@@ -47,18 +47,18 @@ hiding_value hides_not_present e = clash (cc)
 hiding_value hides_null e = clash (cc)
 
 lacking_value : {p : PartitionValue} {y : Value} {X : Type 0} → Lacking p → p ≡ partitioned y → X
-lacking_value no_transform e = clash (cc)
-lacking_value not_present e = clash (cc)
+lacking_value no_transform_lem e = clash (cc)
+lacking_value not_present_lem e = clash (cc)
 
-lacking_null : {p : PartitionValue} {X : Type 0} → Lacking p → p ≡ null_present_lem → X
-lacking_null no_transform e = clash (cc)
-lacking_null not_present e = clash (cc)
+lacking_null : {p : PartitionValue} {X : Type 0} → Lacking p → p ≡ null_present → X
+lacking_null no_transform_lem e = clash (cc)
+lacking_null not_present_lem e = clash (cc)
 
 lacking_unseen : {b : Bool} {p q : PartitionValue} {X : Type 0} → Lacking p → Unseen b q → p ≡ q → X
 lacking_unseen l unseen_null e = lacking_null l e
 lacking_unseen l unseen_value e = lacking_value l e
 
-unseen_present : {b : Bool} {p : PartitionValue} {X : Type 0} → Unseen b p → p ≡ null_present_lem → b ≡ false → X
+unseen_present : {b : Bool} {p : PartitionValue} {X : Type 0} → Unseen b p → p ≡ null_present → b ≡ false → X
 unseen_present unseen_null e v = clash (cc)
 unseen_present unseen_value e v = clash (cc)
 
@@ -71,8 +71,8 @@ partitioned_eq e = cc
 defined_eq : {x y : Value} → defined x ≡ defined y → x ≡ y
 defined_eq e = cc
 
-null_present : {y : Value} {X : Type 0} → vnull ≡ y → (y ≡ vnull → ⊥) → X
-null_present e n = absurd (n (sym e))
+null_present_lem : {y : Value} {X : Type 0} → vnull ≡ y → (y ≡ vnull → ⊥) → X
+null_present_lem e n = absurd (n (sym e))
 
 -- ---- a field that the file lacks, by the rules alone
 
@@ -140,11 +140,11 @@ module _ (M : Metadata) where
     initial'-one (by-default' p q) (by-none' s v h) = valueless_defined v (sym s ∙ q)
     initial'-one (by-default' p q) (hidden-default r h s) = hiding_source h (sym r ∙ p)
     initial'-one (by-default' p q) (partition-in-struct r) = clash (cc)
-    initial'-one (by-default' p q) (own_default n s h) = nested_leaf n
+    initial'-one (by-default' p q) (own_default_lem n s h) = nested_leaf n
     initial'-one (by-empty-struct' q v h) (by-empty-struct' s w g) = under vstruct (initials'-one h g)
     initial'-one (by-empty-struct' q v h) (by-none' s w g) = valueless_struct w (sym s ∙ q)
     initial'-one (by-empty-struct' q v h) (struct-of-none s w) = true≠false v w
-    initial'-one (by-empty-struct' q v h) (own_default n s g) = clash (cc)
+    initial'-one (by-empty-struct' q v h) (own_default_lem n s g) = clash (cc)
     initial'-one (by-none' q v h) (by-default' r s) = valueless_defined v (sym q ∙ s)
     initial'-one (by-none' q v h) (by-empty-struct' s w g) = valueless_struct v (sym q ∙ s)
     initial'-one (by-none' q v h) (by-none' s w g) = unstated'-one h g
@@ -152,32 +152,32 @@ module _ (M : Metadata) where
     initial'-one (by-none' q v h) (struct-of-none s w) = valueless_struct v (sym q ∙ s)
     initial'-one (by-none' q v h) (partition-in-struct r) = valued-unstated h r
     initial'-one (by-none' q v h) (list-default s) = valueless_list v (sym q ∙ s)
-    initial'-one (by-none' q v h) (own_default n s g) = valueless_defined v (sym q ∙ s)
+    initial'-one (by-none' q v h) (own_default_lem n s g) = valueless_defined v (sym q ∙ s)
     initial'-one (hidden-default p h q) (by-default' r s) = hiding_source h (sym p ∙ r)
     initial'-one (hidden-default p h q) (by-none' s w g) = valueless_defined w (sym s ∙ q)
     initial'-one (hidden-default p h q) (hidden-default r g s) = (refl, refl)
     initial'-one (hidden-default p h q) (partition-in-struct r) = hiding_value h (sym p ∙ r)
-    initial'-one (hidden-default p h q) (own_default n s g) = nested_leaf n
+    initial'-one (hidden-default p h q) (own_default_lem n s g) = nested_leaf n
     initial'-one (struct-of-none q v) (by-empty-struct' s w g) = true≠false w v
     initial'-one (struct-of-none q v) (by-none' s w g) = valueless_struct w (sym s ∙ q)
     initial'-one (struct-of-none q v) (struct-of-none s w) = (refl, refl)
-    initial'-one (struct-of-none q v) (own_default n s g) = clash (cc)
+    initial'-one (struct-of-none q v) (own_default_lem n s g) = clash (cc)
     initial'-one (partition-in-struct p) (by-default' r s) = clash (cc)
     initial'-one (partition-in-struct p) (by-none' s w g) = valued-unstated g p
     initial'-one (partition-in-struct p) (hidden-default r g s) = hiding_value g (sym r ∙ p)
     initial'-one (partition-in-struct p) (partition-in-struct r) = (refl, partitioned_eq (sym p ∙ r))
-    initial'-one (partition-in-struct p) (own_default n s g) = nested_leaf n
+    initial'-one (partition-in-struct p) (own_default_lem n s g) = nested_leaf n
     initial'-one (list-default q) (by-none' s w g) = valueless_list w (sym s ∙ q)
     initial'-one (list-default q) (list-default s) = (refl, refl)
-    initial'-one (list-default q) (own_default n s g) = clash (cc)
-    initial'-one (own_default n q h) (by-default' r s) = nested_leaf n
-    initial'-one (own_default n q h) (by-empty-struct' s w g) = clash (cc)
-    initial'-one (own_default n q h) (by-none' s w g) = valueless_defined w (sym s ∙ q)
-    initial'-one (own_default n q h) (hidden-default r g s) = nested_leaf n
-    initial'-one (own_default n q h) (struct-of-none s w) = clash (cc)
-    initial'-one (own_default n q h) (partition-in-struct r) = nested_leaf n
-    initial'-one (own_default n q h) (list-default s) = clash (cc)
-    initial'-one (own_default n q h) (own_default m s g) = more _ (λ y. y) (unstated'-one h g)
+    initial'-one (list-default q) (own_default_lem n s g) = clash (cc)
+    initial'-one (own_default_lem n q h) (by-default' r s) = nested_leaf n
+    initial'-one (own_default_lem n q h) (by-empty-struct' s w g) = clash (cc)
+    initial'-one (own_default_lem n q h) (by-none' s w g) = valueless_defined w (sym s ∙ q)
+    initial'-one (own_default_lem n q h) (hidden-default r g s) = nested_leaf n
+    initial'-one (own_default_lem n q h) (struct-of-none s w) = clash (cc)
+    initial'-one (own_default_lem n q h) (partition-in-struct r) = nested_leaf n
+    initial'-one (own_default_lem n q h) (list-default s) = clash (cc)
+    initial'-one (own_default_lem n q h) (own_default_lem m s g) = more _ (λ y. y) (unstated'-one h g)
 
     initials'-one : {ds es : Differences} {cs : Columns} {ys zs : Values} → InitialAll' M ds cs ys → InitialAll' M es cs zs → Same ds es ys zs
     initials'-one initial-nil' initial-nil' = (refl, refl)
@@ -207,13 +207,13 @@ module _ (M : Metadata) where
     missing'_one (by-initial' p l h) (by-initial' q m g) = initial'-one h g
     missing'_one (by-initial' p l h) (own-partition n q v r g) = lacking_unseen l r (sym p ∙ q)
     missing'_one (null-in-element' h) (null-in-element' g) = (refl, refl)
-    missing'_one (null-in-element' h) (in_element g n) = null_present (missing-one M h g) n
+    missing'_one (null-in-element' h) (in_element_lem g n) = null_present_lem (missing-one M h g) n
     missing'_one (own-partition n p v r h) (by-partition' q) = nested_leaf n
     missing'_one (own-partition n p v r h) (by-null-partition' q w) = unseen_present r (sym p ∙ q) (sym v ∙ w)
     missing'_one (own-partition n p v r h) (by-initial' q m g) = lacking_unseen m r (sym q ∙ p)
     missing'_one (own-partition n p v r h) (own-partition m q w s g) = more _ (λ y. y) (initial'-one h g)
-    missing'_one (in_element h n) (null-in-element' g) = null_present (missing-one M g h) n
-    missing'_one (in_element h n) (in_element g m) = (refl, refl)
+    missing'_one (in_element_lem h n) (null-in-element' g) = null_present_lem (missing-one M g h) n
+    missing'_one (in_element_lem h n) (in_element_lem g m) = (refl, refl)
 
     missings'-one : {ds es : Differences} {cs : Columns} {ys zs : Values} → MissingAll' M ds cs ys → MissingAll' M es cs zs → Same ds es ys zs
     missings'-one missing-nil' missing-nil' = (refl, refl)
@@ -274,6 +274,21 @@ module _ (converted : LeafType → LeafType → Value → Value) (M : Metadata) 
     each-one d reads_none reads_none = refl
     each-one d (reads_more r rs) (reads_more s ss) = ap₂ vcons (reads-one d r s) (each-one d rs ss)
 
+  -- what a reading of an array has; its width stands in both types, so a match on two readings would need that twice
+  ArrayView : ColumnType → ColumnType → Value → Differences → Value → Type 0
+  ArrayView (carray w b u) (carray v a t) (varray xs) es z =
+      (ds : Differences) × (ys : Values) × ReadsEach' converted M ds u t xs ys × (es ≡ array_read ∷ ds) × (z ≡ varray ys)
+  ArrayView _ _ _ _ _ = Unit {0}
+
+  array_view : {o : Place} {es : Differences} {u t : ColumnType} {x z : Value} → Reads' converted M o es u t x z → ArrayView u t x es z
+  array_view (reads-leaf' p e) = tt
+  array_view reads-null' = tt
+  array_view (reads-struct' h) = tt
+  array_view (reads-list' e i h) = tt
+  array_view (any-element n a h) = tt
+  array_view (array-read h) = (_, _, h, refl, refl)
+  array_view (leaf-converted p n e) = tt
+
   mutual
     reads'-one : {o : Place} {ds es : Differences} {u t : ColumnType} {x y z : Value} → DistinctIds t → Reads' converted M o ds u t x y
         → Reads' converted M o es u t x z → Same ds es y z
@@ -282,15 +297,17 @@ module _ (converted : LeafType → LeafType → Value → Value) (M : Metadata) 
     reads'-one d (reads-leaf' p e) (leaf-converted q n f) = true≠false p q
     reads'-one d reads-null' (reads-leaf' {l = l} {m} p e) = (refl, sym (null l m) ∙ e)
     reads'-one d reads-null' reads-null' = (refl, refl)
-    reads'-one d reads-null' (leaf-converted q n f) = null_present refl n
+    reads'-one d reads-null' (leaf-converted q n f) = null_present_lem refl n
     reads'-one d (reads-struct' h) (reads-struct' g) = under vstruct (all'_one d h g)
     reads'-one d (reads-list' e i h) (reads-list' f j g) = under vlist (each'-one d h g)
     reads'-one d (reads-list' e i h) (any-element n a g) = absurd (n e)
     reads'-one d (any-element n a h) (reads-list' f j g) = absurd (n f)
     reads'-one d (any-element n a h) (any-element m b g) = more _ vlist (each'-one d h g)
-    reads'-one d (array-read h) (array-read g) = more _ varray (each'-one d h g)
+    reads'-one d (array-read h) g =
+        let (ds, ys, k, e, f) = array_view g in
+        let (p, q) = more _ varray (each'-one d h k) in (p ∙ sym e, q ∙ sym f)
     reads'-one d (leaf-converted p n e) (reads-leaf' q f) = true≠false q p
-    reads'-one d (leaf-converted p n e) reads-null' = null_present refl n
+    reads'-one d (leaf-converted p n e) reads-null' = null_present_lem refl n
     reads'-one d (leaf-converted p n e) (leaf-converted q m f) = (refl, sym e ∙ f)
 
     pub all'_one : {o : Place} {ds es : Differences} {gs fs : Columns} {xs ys zs : Values} → DistinctIdsAll fs → ReadsAll' converted M o ds gs fs xs ys

@@ -25,7 +25,7 @@ use Rattle.matching.specs.Default.{Defaults, missing_value}
 use Rattle.matching.specs.Build.{is_null_type, same_element, element_default_id, keeps_required, fills_required, build}
 use Rattle.matching.specs.Due.{due_leaf, or_else_null, from_counterpart, due, dues}
 use Rattle.matching.proofs.Lookup.{counterpart-at}
-use Rattle.matching.proofs.Attach.{Attach, a-same, a-cast, a_struct, a_list_lem, a_array, AttachAll, a_nil, a-found, a-missing, build→}
+use Rattle.matching.proofs.Attach.{Attach, a-same, a-cast, a_struct_lem, a_list_lem, a_array, AttachAll, a_nil, a-found, a-missing, build→}
 use Rattle.matching.proofs.Right.{at-fits, from_null-value, attach_all_due}
 use Rattle.iceberg.specs.Specification.{Metadata, present, may_become, promotes}
 use Rattle.iceberg.specs.Differences.{Differences, Place, outside, inside, incoming_is-any, target_is-any, Reads', reads-leaf', reads-null'}
@@ -139,7 +139,7 @@ module _ (nulls : Bool) (es : List Entry) (k : ℕ) (empties : FieldId → Bool)
         → Fits (dtype_of t) x → OneReads (stated nulls es k empties) p u t x (due ByNumber d u t x)
     attach-reads {x = x} (a-same {l = l}) p q h = leaf-reads (stated nulls es k empties) p l l x
     attach-reads (a-cast {d} {k = j} {t} {u} {o = o} r e) p q h = cast-reads (stated nulls es k empties) p d t u o (rw (← e) at r) h
-    attach-reads (a_struct c a r) p q h = struct-reads (stated nulls es k empties) _ (λ xs y. attachAll-reads a p q y) h
+    attach-reads (a_struct_lem c a r) p q h = struct-reads (stated nulls es k empties) _ (λ xs y. attachAll-reads a p q y) h
     attach-reads (a_list_lem {a = x} {b} {t} c m a r) p q h = list-reads (stated nulls es k empties) _ c (kept-mark x t b m) (λ y z. attach-reads a inside refl z) h
     attach-reads (a_array c m a r) p q h = array-reads (stated nulls es k empties) _ (λ y z. attach-reads a inside refl z) h
 

@@ -36,11 +36,11 @@ use Rattle.matching.proofs.Entries.{Match, unmatched, matched, match_of, of_matc
 use Rattle.iceberg.specs.Specification.{Metadata, Lacks, present}
 use Rattle.iceberg.specs.Differences.{nested_struct, nested_list, nested_array, Place, outside, inside, OneIsAny, incoming_is-any, target_is-any}
 use Rattle.iceberg.specs.Stated.{stated}
-use Rattle.iceberg.specs.Refusals.{Optional, not-required, of_null_lem, list-optional, array-optional, optional-selected, missing-required}
+use Rattle.iceberg.specs.Refusals.{Optional, not-required, of_null_type, list-optional, array-optional, optional-selected, missing-required}
 use Rattle.iceberg.specs.Refusals.{EntryOf, entry_here, entry-there, TypeGiven, of_initial, of_partition, nested_for_leaf, leaf_for_nested}
 use Rattle.iceberg.specs.Refusals.{list_for_struct, array_for_struct, struct_for_list, array_for_list, struct_for_array, list_for_array, Extra}
 use Rattle.iceberg.specs.Refusals.{extra_here, extra_there, NoDefaultFor, partition-failed, default-type, for-a-field, NoDefaultIn, for-first, for-later}
-use Rattle.iceberg.specs.Refusals.{Refuses, leaf-pair, other-kind, other_width, list-ids, array-ids, in_list, in_array, extra_field, in_struct_lem}
+use Rattle.iceberg.specs.Refusals.{Refuses, leaf-pair, other-kind, other_width, list-ids, array-ids, in_list, in_array, extra_field, in_struct}
 use Rattle.iceberg.specs.Refusals.{RefusesAny, at-selected, missing-raised, missing-default, at-later, RefusesBuild, extra_column, at-a-column}
 use Rattle.iceberg.proofs.Facts.{asked, found_first}
 use Rattle.iceberg.proofs.Reading.{value_at_lem}
@@ -146,7 +146,7 @@ absent-is : (x : Lookup) → is_absent x ≡ true → x ≡ absent
 absent-is absent e = refl
 absent-is (found k l t) e = clash (cc)
 
-first_extra : {fs gs : Columns} {i j : ℕ} → FirstExtra ByNumber gs fs i j → Extra fs gs
+first_extra : {gs fs : Columns} {i j : ℕ} → FirstExtra ByNumber gs fs i j → Extra fs gs
 first_extra (first-here {l = l} q) = extra_here (counterpart_lacks l _ (absent-is _ q))
 first_extra (first-later q f) = extra_there (first_extra f)
 
@@ -167,7 +167,7 @@ unfolding keeps_required is_null_type
 mark_lost a t b e = go b.required refl a.required refl e
   where
     nulls : (t : ColumnType) → not (is_null_type t) ≡ false → Optional a t
-    nulls (cleaf l) e = of_null_lem (not-false (is_null (leaf_of l)) e)
+    nulls (cleaf l) e = of_null_type (not-false (is_null (leaf_of l)) e)
     nulls (cstruct cs) e = clash (cc)
     nulls (clist l u) e = clash (cc)
     nulls (carray w l u) e = clash (cc)
@@ -324,7 +324,7 @@ module _ (p : Policy) (nulls : Bool) (es : List Entry) (k : ℕ) (empties : Fiel
     type-refused : (u : ColumnType) (q : Place) (j : Position) (t : ColumnType) {n : ℕ} → attach_transforms ByNumber p (asked es k q) u j t ≡ refuses n
         → Refuses p es M q n u t
     type-refused (cleaf m) q j t e = leaf-refused q m j t e
-    type-refused (cstruct gs) q j t e = struct-refused q gs j t (λ fs s. in_struct_lem (fields-refused gs q fs s)) e
+    type-refused (cstruct gs) q j t e = struct-refused q gs j t (λ fs s. in_struct (fields-refused gs q fs s)) e
     type-refused (clist b u) q j t e = list-refused q b u j t (λ t s. type-refused u inside first t s) e
     type-refused (carray w b u) q j t e = array-refused q w b u j t (λ t s. type-refused u inside first t s) e
 

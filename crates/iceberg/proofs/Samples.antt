@@ -46,23 +46,23 @@ use Rattle.matching.specs.Build.{is_position, in_place_of, struct_selector, list
 use Rattle.matching.specs.Build.{keeps_required, fills_required, build_from, build}
 use Rattle.matching.specs.Due.{due_leaf}
 use Rattle.matching.proofs.Samples.{laid_out}
-use Rattle.iceberg.specs.Specification.{HasId, id-here, id-there, lacks_nil, lacks_cons, Metadata, no_transform, not_present, nothing-defined, present}
+use Rattle.iceberg.specs.Specification.{HasId, id-here, id-there, lacks_nil, lacks_cons, Metadata, no_transform_lem, not_present_lem, nothing-defined, present}
 use Rattle.iceberg.specs.Specification.{may_become, promotes}
 use Rattle.iceberg.specs.Specification.{by_default, by-empty-struct, by-empty-list, by-null, initial-nil, initial-cons, by-partition, by-null-partition}
 use Rattle.iceberg.specs.Specification.{by-initial, Reads, reads-leaf, reads-null, reads_struct, reads-list, ReadsAll, reads-nil, reads-selected}
 use Rattle.iceberg.specs.Specification.{reads-missing, reads_none, reads_more}
-use Rattle.iceberg.specs.Differences.{Differences, hidden_default, struct_together, struct_of_none, partition_in_struct, list_default, own_partition, own_default_lem}
-use Rattle.iceberg.specs.Differences.{in_element_lem, any_element, array_read, leaf_converted, hides_not_present, unseen_value, nested_struct, OneIsAny}
+use Rattle.iceberg.specs.Differences.{Differences, hidden_default, struct_together, struct_of_none, partition_in_struct, list_default, own_partition, own_default}
+use Rattle.iceberg.specs.Differences.{in_element, any_element, array_read, leaf_converted, hides_not_present, unseen_value, nested_struct, OneIsAny}
 use Rattle.iceberg.specs.Differences.{incoming_is-any, valued, outside, Missing', by-default', by-none', hidden-default, struct-of-none}
 use Rattle.iceberg.specs.Differences.{partition-in-struct}
-use Rattle.iceberg.specs.Differences.{list-default, own_default, by-empty-struct', initial-nil', initial-cons', by-null', struct-together}
-use Rattle.iceberg.specs.Differences.{by-null-partition', by-initial', own-partition, in_element, missing-nil', missing-cons', target_is-any, reads-leaf'}
+use Rattle.iceberg.specs.Differences.{list-default, own_default_lem, by-empty-struct', initial-nil', initial-cons', by-null', struct-together}
+use Rattle.iceberg.specs.Differences.{by-null-partition', by-initial', own-partition, in_element_lem, missing-nil', missing-cons', target_is-any, reads-leaf'}
 use Rattle.iceberg.specs.Differences.{reads-struct', reads-list', any-element, array-read, leaf-converted, ReadsAll', reads-nil', reads-selected'}
 use Rattle.iceberg.specs.Differences.{reads-missing', reads-none', reads-more', AgreesAll, agrees-nil, agrees-selected, agrees-missing}
 use Rattle.iceberg.specs.Differences.{agrees-leaf, agrees-struct}
 use Rattle.iceberg.specs.Refusals.{entry_here, entry-there, of_initial, leaf_for_nested, extra_here, partition-failed, default-type, leaf-pair}
 use Rattle.iceberg.specs.Refusals.{not-required, optional-selected, missing-required}
-use Rattle.iceberg.specs.Refusals.{other-kind, list-ids, extra_field, in_struct_lem, RefusesAny, at-selected, missing-raised, missing-default, RefusesBuild}
+use Rattle.iceberg.specs.Refusals.{other-kind, list-ids, extra_field, in_struct, RefusesAny, at-selected, missing-raised, missing-default, RefusesBuild}
 use Rattle.iceberg.specs.Refusals.{extra_column}
 use Rattle.iceberg.specs.Stated.{tuple_at, partition_of, initial_of, stated}
 use Rattle.iceberg.proofs.Facts.{hiding_null}
@@ -162,8 +162,8 @@ added =
       ours = refl;
       reads =
           reads-selected' (id-here refl) refl
-          (reads-struct' (reads-missing' lacks_nil refl (by-initial' refl no_transform (by-default' refl refl)) reads-nil' refl)) reads-nil' refl;
-      theirs = reads-selected (id-here refl) refl (reads_struct (reads-missing lacks_nil refl (by-initial refl no_transform (by_default refl))
+          (reads-struct' (reads-missing' lacks_nil refl (by-initial' refl no_transform_lem (by-default' refl refl)) reads-nil' refl)) reads-nil' refl;
+      theirs = reads-selected (id-here refl) refl (reads_struct (reads-missing lacks_nil refl (by-initial refl no_transform_lem (by_default refl))
           reads-nil)) reads-nil;
     }
 
@@ -172,7 +172,7 @@ added_agrees : AgreesAll (stated false (initially 2 ∷ []) 0 none_empty) outsid
 unfolding stated partition_of initial_of first_entry_of choose
 added_agrees =
     agrees-selected (id-here refl)
-    (agrees-struct (agrees-missing lacks_nil (by-initial' refl no_transform (by-default' {y = seven} refl refl)) agrees-nil)) agrees-nil
+    (agrees-struct (agrees-missing lacks_nil (by-initial' refl no_transform_lem (by-default' {y = seven} refl refl)) agrees-nil)) agrees-nil
 
 -- t#1 struct{a#1:int8}: ids are unique among siblings only
 abbrev repeated : Columns
@@ -203,9 +203,9 @@ hidden =
       ours = refl;
       reads =
           reads-selected' (id-here refl) refl
-          (reads-struct' (reads-missing' lacks_nil refl (by-initial' refl not_present (hidden-default refl hides_not_present refl)) reads-nil' refl))
+          (reads-struct' (reads-missing' lacks_nil refl (by-initial' refl not_present_lem (hidden-default refl hides_not_present refl)) reads-nil' refl))
           reads-nil' refl;
-      theirs = reads-selected (id-here refl) refl (reads_struct (reads-missing lacks_nil refl (by-initial refl not_present (by_default refl))
+      theirs = reads-selected (id-here refl) refl (reads_struct (reads-missing lacks_nil refl (by-initial refl not_present_lem (by_default refl))
           reads-nil)) reads-nil;
     }
 
@@ -217,9 +217,9 @@ hidden-null =
       ours = refl;
       reads =
           reads-selected' (id-here refl) refl
-          (reads-struct' (reads-missing' lacks_nil refl (by-initial' refl not_present (hidden-default refl hides_not_present refl)) reads-nil' refl))
+          (reads-struct' (reads-missing' lacks_nil refl (by-initial' refl not_present_lem (hidden-default refl hides_not_present refl)) reads-nil' refl))
           reads-nil' refl;
-      theirs = reads-selected (id-here refl) refl (reads_struct (reads-missing lacks_nil refl (by-initial refl not_present (by_default refl))
+      theirs = reads-selected (id-here refl) refl (reads_struct (reads-missing lacks_nil refl (by-initial refl not_present_lem (by_default refl))
           reads-nil)) reads-nil;
     }
 
@@ -244,13 +244,13 @@ hidden-in_struct nulls =
       ours = refl;
       reads =
           reads-missing' lacks_nil refl
-          (by-initial' refl no_transform
+          (by-initial' refl no_transform_lem
           (by-empty-struct' refl refl
           (initial-cons' (by-default' refl refl) (initial-cons' (hidden-default refl (hiding_null nulls) refl) initial-nil' refl) refl)))
           reads-nil' refl;
       theirs =
           reads-missing lacks_nil refl
-          (by-initial refl no_transform (by-empty-struct refl (initial-cons (by_default refl) (initial-cons (by_default refl) initial-nil)))) reads-nil;
+          (by-initial refl no_transform_lem (by-empty-struct refl (initial-cons (by_default refl) (initial-cons (by_default refl) initial-nil)))) reads-nil;
     }
 
 -- a struct's default is made of its fields'
@@ -261,10 +261,10 @@ together =
       ours = refl;
       reads =
           reads-missing' lacks_nil refl
-          (by-initial' refl no_transform
-          (by-none' refl nothing-defined (struct-together refl (missing-cons' (by-initial' refl no_transform (by-default' refl refl)) missing-nil' refl))))
+          (by-initial' refl no_transform_lem
+          (by-none' refl nothing-defined (struct-together refl (missing-cons' (by-initial' refl no_transform_lem (by-default' refl refl)) missing-nil' refl))))
           reads-nil' refl;
-      theirs = reads-missing lacks_nil refl (by-initial refl no_transform (by-null refl nothing-defined)) reads-nil;
+      theirs = reads-missing lacks_nil refl (by-initial refl no_transform_lem (by-null refl nothing-defined)) reads-nil;
     }
 
 -- .. and is null where all are none
@@ -273,9 +273,9 @@ unfolding computed stated partition_of initial_of first_entry_of choose value_at
 of_none =
     record {
       ours = refl;
-      reads = reads-missing' lacks_nil refl (by-initial' refl no_transform (struct-of-none refl refl)) reads-nil' refl;
+      reads = reads-missing' lacks_nil refl (by-initial' refl no_transform_lem (struct-of-none refl refl)) reads-nil' refl;
       theirs =
-          reads-missing lacks_nil refl (by-initial refl no_transform (by-empty-struct refl (initial-cons (by-null refl nothing-defined) initial-nil)))
+          reads-missing lacks_nil refl (by-initial refl no_transform_lem (by-empty-struct refl (initial-cons (by-null refl nothing-defined) initial-nil)))
           reads-nil;
     }
 
@@ -286,10 +286,10 @@ partition-inside =
     record {
       ours = refl;
       reads =
-          reads-missing' lacks_nil refl (by-initial' refl no_transform (by-empty-struct' refl refl
+          reads-missing' lacks_nil refl (by-initial' refl no_transform_lem (by-empty-struct' refl refl
           (initial-cons' (partition-in-struct refl) initial-nil' refl)))
           reads-nil' refl;
-      theirs = reads-missing lacks_nil refl (by-initial refl no_transform (by-empty-struct refl (initial-cons (by_default refl) initial-nil))) reads-nil;
+      theirs = reads-missing lacks_nil refl (by-initial refl no_transform_lem (by-empty-struct refl (initial-cons (by_default refl) initial-nil))) reads-nil;
     }
 
 -- a list's own default `[]` is not looked at
@@ -298,8 +298,8 @@ unfolding computed stated partition_of initial_of first_entry_of choose value_at
 empty-list =
     record {
       ours = refl;
-      reads = reads-missing' lacks_nil refl (by-initial' refl no_transform (list-default refl)) reads-nil' refl;
-      theirs = reads-missing lacks_nil refl (by-initial refl no_transform (by-empty-list refl)) reads-nil;
+      reads = reads-missing' lacks_nil refl (by-initial' refl no_transform_lem (list-default refl)) reads-nil' refl;
+      theirs = reads-missing lacks_nil refl (by-initial refl no_transform_lem (by-empty-list refl)) reads-nil;
     }
 
 -- a partition value under a struct's, list's or array's own id is not looked at
@@ -314,17 +314,17 @@ partition_of-struct =
     }
 
 -- nor is an initial default there
-default_of_struct : Sample false (initially 1 ∷ []) none_empty none whole vnil (own_default_lem ∷ []) (one vnull) (one seven)
+default_of_struct : Sample false (initially 1 ∷ []) none_empty none whole vnil (own_default ∷ []) (one vnull) (one seven)
 unfolding computed stated partition_of initial_of first_entry_of choose value_at valued
 default_of_struct =
     record {
       ours = refl;
-      reads = reads-missing' lacks_nil refl (by-initial' refl no_transform (own_default nested_struct refl (by-null' refl))) reads-nil' refl;
-      theirs = reads-missing lacks_nil refl (by-initial refl no_transform (by_default refl)) reads-nil;
+      reads = reads-missing' lacks_nil refl (by-initial' refl no_transform_lem (own_default_lem nested_struct refl (by-null' refl))) reads-nil' refl;
+      theirs = reads-missing lacks_nil refl (by-initial refl no_transform_lem (by_default refl)) reads-nil;
     }
 
 -- no default inside elements
-in_elements_lem : Sample false (initially 2 ∷ []) none_empty (listed 9 (cstruct cnil)) (listed 9 (cstruct field)) (one (vlist empty_row)) (in_element_lem ∷ [])
+in_elements_lem : Sample false (initially 2 ∷ []) none_empty (listed 9 (cstruct cnil)) (listed 9 (cstruct field)) (one (vlist empty_row)) (in_element ∷ [])
     (one (vlist (row vnull))) (one (vlist (row seven)))
 unfolding computed stated partition_of initial_of first_entry_of choose value_at
 in_elements_lem =
@@ -334,13 +334,13 @@ in_elements_lem =
           reads-selected' (id-here refl) refl
           (reads-list' refl refl
           (reads-more'
-          (reads-struct' (reads-missing' lacks_nil refl (in_element (by-initial refl no_transform (by_default {y = seven} refl)) (λ e. not_null e))
+          (reads-struct' (reads-missing' lacks_nil refl (in_element_lem (by-initial refl no_transform_lem (by_default {y = seven} refl)) (λ e. not_null e))
           reads-nil' refl))
           reads-none' refl))
           reads-nil' refl;
       theirs =
           reads-selected (id-here refl) refl
-          (reads-list refl refl (reads_more (reads_struct (reads-missing lacks_nil refl (by-initial refl no_transform (by_default refl)) reads-nil))
+          (reads-list refl refl (reads_more (reads_struct (reads-missing lacks_nil refl (by-initial refl no_transform_lem (by_default refl)) reads-nil))
           reads_none))
           reads-nil;
     }
@@ -431,8 +431,8 @@ unfolding computed stated partition_of initial_of first_entry_of choose value_at
 unloaded =
     record {
       ours = refl;
-      why = at-selected (id-here refl) (in_struct_lem (missing-default lacks_nil (partition-failed (entry-there (entry_here refl refl)))));
-      theirs = reads-selected (id-here refl) refl (reads_struct (reads-missing lacks_nil refl (by-initial refl not_present (by_default refl))
+      why = at-selected (id-here refl) (in_struct (missing-default lacks_nil (partition-failed (entry-there (entry_here refl refl)))));
+      theirs = reads-selected (id-here refl) refl (reads_struct (reads-missing lacks_nil refl (by-initial refl not_present_lem (by_default refl))
           reads-nil)) reads-nil;
     }
 
@@ -443,8 +443,8 @@ unfolding computed stated partition_of initial_of first_entry_of choose value_at
 unlike =
     record {
       ours = refl;
-      why = at-selected (id-here refl) (in_struct_lem (missing-default lacks_nil (default-type (entry_here refl refl) of_initial refl)));
-      theirs = reads-selected (id-here refl) refl (reads_struct (reads-missing lacks_nil refl (by-initial refl no_transform (by_default refl))
+      why = at-selected (id-here refl) (in_struct (missing-default lacks_nil (default-type (entry_here refl refl) of_initial refl)));
+      theirs = reads-selected (id-here refl) refl (reads_struct (reads-missing lacks_nil refl (by-initial refl no_transform_lem (by_default refl))
           reads-nil)) reads-nil;
     }
 
@@ -455,7 +455,7 @@ raised_column =
     record {
       ours = refl;
       why = missing-raised lacks_nil refl;
-      theirs = reads-missing lacks_nil refl (by-initial refl no_transform (by-null refl nothing-defined)) reads-nil;
+      theirs = reads-missing lacks_nil refl (by-initial refl no_transform_lem (by-null refl nothing-defined)) reads-nil;
     }
 
 raised_field : Refusal (policy_of 63487) [] bare whole empty_row 14 (row vnull)
@@ -463,9 +463,9 @@ unfolding computed stated first_entry_of value_at
 raised_field =
     record {
       ours = refl;
-      why = at-selected (id-here refl) (in_struct_lem (missing-raised lacks_nil refl));
+      why = at-selected (id-here refl) (in_struct (missing-raised lacks_nil refl));
       theirs =
-          reads-selected (id-here refl) refl (reads_struct (reads-missing lacks_nil refl (by-initial refl no_transform (by-null refl nothing-defined))
+          reads-selected (id-here refl) refl (reads_struct (reads-missing lacks_nil refl (by-initial refl no_transform_lem (by-null refl nothing-defined))
           reads-nil))
           reads-nil;
     }
@@ -618,8 +618,8 @@ required_added =
       ours = refl;
       reads =
           reads-selected' (id-here refl) refl
-          (reads-struct' (reads-missing' lacks_nil refl (by-initial' refl no_transform (by-default' refl refl)) reads-nil' refl)) reads-nil' refl;
-      theirs = reads-selected (id-here refl) refl (reads_struct (reads-missing lacks_nil refl (by-initial refl no_transform (by_default refl))
+          (reads-struct' (reads-missing' lacks_nil refl (by-initial' refl no_transform_lem (by-default' refl refl)) reads-nil' refl)) reads-nil' refl;
+      theirs = reads-selected (id-here refl) refl (reads_struct (reads-missing lacks_nil refl (by-initial refl no_transform_lem (by_default refl))
           reads-nil)) reads-nil;
     }
 
@@ -629,10 +629,10 @@ required-missing : (computed all_on [] bare needed empty_row ≡ refused_at 54 0
     × ((ys : Values) → ReadsAll due_leaf (stated false [] 0 none_empty) needed bare empty_row ys → ⊥)
 unfolding computed stated first_entry_of value_at valued
 required-missing =
-    (refl, at-selected (id-here refl) (in_struct_lem (missing-required lacks_nil none refl)), λ ys r. inside-errs (first_reads _ refl r).1)
+    (refl, at-selected (id-here refl) (in_struct (missing-required lacks_nil none refl)), λ ys r. inside-errs (first_reads _ refl r).1)
   where
     none : Missing' (stated false [] 0 none_empty) outside [] (record { 0 = 2 }) (cleaf (integer Int8)) vnull
-    none = by-initial' refl no_transform (by-none' refl nothing-defined (by-null' refl))
+    none = by-initial' refl no_transform_lem (by-none' refl nothing-defined (by-null' refl))
 
     inside-errs : {y : Value}
         → Reads due_leaf (stated false [] 0 none_empty) (cstruct (ccons (record { name = 0x61 ∷ []; id = record { 0 = 2 }; required = true })
@@ -646,9 +646,9 @@ unfolding computed stated partition_of tuple_at initial_of first_entry_of choose
 required-hidden =
     record {
       ours = refl;
-      why = at-selected (id-here refl) (in_struct_lem (missing-required lacks_nil (by-initial' refl not_present
+      why = at-selected (id-here refl) (in_struct (missing-required lacks_nil (by-initial' refl not_present_lem
           (hidden-default refl hides_not_present refl)) refl));
-      theirs = reads-selected (id-here refl) refl (reads_struct (reads-missing lacks_nil refl (by-initial refl not_present (by_default refl))
+      theirs = reads-selected (id-here refl) refl (reads_struct (reads-missing lacks_nil refl (by-initial refl not_present_lem (by_default refl))
           reads-nil)) reads-nil;
     }
 
@@ -659,7 +659,7 @@ optional-required : (computed all_on [] whole needed (row five) ≡ refused_at 5
 unfolding computed stated first_entry_of value_at
 optional-required = (
   refl,
-  at-selected (id-here refl) (in_struct_lem (optional-selected (id-here refl) refl (not-required refl))),
+  at-selected (id-here refl) (in_struct (optional-selected (id-here refl) refl (not-required refl))),
   λ ys r. inside-errs
       (first_reads _ refl r).1,
 )

@@ -9,9 +9,9 @@ use Rattle.iceberg.specs.Specification.{Metadata, Initial, by_default, by-empty-
 use Rattle.iceberg.specs.Specification.{by-partition, by-null-partition, by-initial, Reads, reads-leaf, reads-null, reads_struct, reads-list, ReadsAll}
 use Rattle.iceberg.specs.Specification.{reads-nil, reads-selected, reads-missing, ReadsEach, reads_none, reads_more}
 use Rattle.iceberg.specs.Differences.{Difference, Differences, Place, Initial', by-default', by-empty-struct', by-none', hidden-default, struct-of-none}
-use Rattle.iceberg.specs.Differences.{partition-in-struct, list-default, own_default, InitialAll', initial-nil', initial-cons', Unstated', by-null'}
+use Rattle.iceberg.specs.Differences.{partition-in-struct, list-default, own_default_lem, InitialAll', initial-nil', initial-cons', Unstated', by-null'}
 use Rattle.iceberg.specs.Differences.{struct-together, Missing', by-partition', by-null-partition', by-initial', null-in-element', own-partition}
-use Rattle.iceberg.specs.Differences.{in_element, Reads', reads-leaf', reads-null', reads-struct', reads-list', any-element, array-read, leaf-converted}
+use Rattle.iceberg.specs.Differences.{in_element_lem, Reads', reads-leaf', reads-null', reads-struct', reads-list', any-element, array-read, leaf-converted}
 use Rattle.iceberg.specs.Differences.{ReadsAll', reads-nil', reads-selected', reads-missing', ReadsEach', reads-none', reads-more'}
 
 never_empty : {X : Type 0} {d : Difference} {ds : Differences} → d ∷ ds ≡ [] → X
@@ -36,7 +36,7 @@ module _ (M : Metadata) where
     initial-specified (struct-of-none q v) e = never_empty e
     initial-specified (partition-in-struct p) e = never_empty e
     initial-specified (list-default q) e = never_empty e
-    initial-specified (own_default n q h) e = never_empty e
+    initial-specified (own_default_lem n q h) e = never_empty e
 
     initials-specified : {ds : Differences} {cs : Columns} {ys : Values} → InitialAll' M ds cs ys → ds ≡ [] → InitialAll M cs ys
     initials-specified initial-nil' e = initial-nil
@@ -48,7 +48,7 @@ module _ (M : Metadata) where
   missing_specified (by-initial' p l h) e = by-initial p l (initial-specified h e)
   missing_specified (null-in-element' h) e = h
   missing_specified (own-partition n p v q h) e = never_empty e
-  missing_specified (in_element h q) e = never_empty e
+  missing_specified (in_element_lem h q) e = never_empty e
 
 module _ (converted : LeafType → LeafType → Value → Value) (M : Metadata) where
   mutual

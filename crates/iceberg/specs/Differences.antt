@@ -6,7 +6,7 @@ use Rattle.layout.specs.Tree.{LeafType, Label, ColumnType, cleaf, cstruct, clist
 use Rattle.layout.specs.declared.columns.FieldId.{FieldId}
 use Rattle.values.specs.Value.{Value, vnull, vstruct, vlist, varray, Values, vnil, vcons}
 use Rattle.plan.specs.Run.{value_at}
-use Rattle.iceberg.specs.Specification.{PartitionValue, no_transform_lem, not_present_lem, null_present_lem, partitioned, InitialDefault, undefined, defined, empty}
+use Rattle.iceberg.specs.Specification.{PartitionValue, no_transform, not_present, null_present, partitioned, InitialDefault, undefined, defined, empty}
 use Rattle.iceberg.specs.Specification.{Metadata, HasId, Lacks, Lacking, Valueless, Missing, present, may_become, promotes}
 
 pub data Difference : Type 0 where
@@ -23,9 +23,9 @@ pub data Difference : Type 0 where
   -- a partition value under a struct's, list's or array's own id is not looked at
   own_partition : Difference
   -- nor is an initial default there
-  own_default_lem : Difference
+  own_default : Difference
   -- no default inside elements
-  in_element_lem : Difference
+  in_element : Difference
   -- an element of the id 4,294,967,295 pairs with any
   any_element : Difference
   -- arrays
@@ -40,12 +40,12 @@ Differences = List Difference
 
 -- no value is present, or a null
 pub data Hiding : PartitionValue → Type 0 where
-  hides_not_present : Hiding not_present_lem
-  hides_null : Hiding null_present_lem
+  hides_not_present : Hiding not_present
+  hides_null : Hiding null_present
 
 -- a value is present, or a null where a struct is put together (true)
 pub data Unseen : Bool → PartitionValue → Type 0 where
-  unseen_null : Unseen true null_present_lem
+  unseen_null : Unseen true null_present
   unseen_value : {b : Bool} {y : Value} → Unseen b (partitioned y)
 
 pub data Nested : ColumnType → Type 0 where
@@ -60,9 +60,9 @@ is_defined empty = false
 
 -- a leaf has a value: its partition value; its initial default where it is no partition's source
 abbrev pub leaf_valued : PartitionValue → InitialDefault → Bool
-leaf_valued no_transform_lem q = is_defined q
-leaf_valued not_present_lem q = false
-leaf_valued null_present_lem q = false
+leaf_valued no_transform q = is_defined q
+leaf_valued not_present q = false
+leaf_valued null_present q = false
 leaf_valued (partitioned y) q = true
 
 -- a leaf has a value that is the field, or stands in it with only structs between
@@ -88,7 +88,7 @@ module _ (M : Metadata) where
   mutual
     -- rules 3 and 4
     pub data Initial' : Differences → FieldId → ColumnType → Value → Type 0 where
-      by-default' : {i : FieldId} {l : LeafType} {y : Value} → M.partition i ≡ no_transform_lem → M.initial_default i ≡ defined y → Initial' [] i (cleaf l) y
+      by-default' : {i : FieldId} {l : LeafType} {y : Value} → M.partition i ≡ no_transform → M.initial_default i ≡ defined y → Initial' [] i (cleaf l) y
       by-empty-struct' : {ds : Differences} {i : FieldId} {cs : Columns} {ys : Values} → M.initial_default i ≡ empty → valued_any M cs ≡ true
           → InitialAll' ds cs ys → Initial' ds i (cstruct cs) (vstruct ys)
       by-none' : {ds : Differences} {i : FieldId} {u : ColumnType} {x : InitialDefault} {y : Value} → M.initial_default i ≡ x → Valueless u x
@@ -103,8 +103,8 @@ module _ (M : Metadata) where
       -- a list's own default `[]` is not looked at
       list-default : {i : FieldId} {l : Label} {t : ColumnType} → M.initial_default i ≡ empty → Initial' (list_default ∷ []) i (clist l t) vnull
       -- an initial default under a struct's, list's or array's own id is not looked at
-      own_default : {ds : Differences} {i : FieldId} {u : ColumnType} {y z : Value} → Nested u → M.initial_default i ≡ defined z → Unstated' ds i u y
-          → Initial' (own_default_lem ∷ ds) i u y
+      own_default_lem : {ds : Differences} {i : FieldId} {u : ColumnType} {y z : Value} → Nested u → M.initial_default i ≡ defined z → Unstated' ds i u y
+          → Initial' (own_default ∷ ds) i u y
 
     pub data InitialAll' : Differences → Columns → Values → Type 0 where
       initial-nil' : InitialAll' [] cnil vnil
@@ -121,7 +121,7 @@ module _ (M : Metadata) where
     -- rules 1, 3 and 4
     pub data Missing' : Place → Differences → FieldId → ColumnType → Value → Type 0 where
       by-partition' : {i : FieldId} {l : LeafType} {y : Value} → M.partition i ≡ partitioned y → Missing' outside [] i (cleaf l) y
-      by-null-partition' : {i : FieldId} {u : ColumnType} → M.partition i ≡ null_present_lem → valued M i u ≡ false → Missing' outside [] i u vnull
+      by-null-partition' : {i : FieldId} {u : ColumnType} → M.partition i ≡ null_present → valued M i u ≡ false → Missing' outside [] i u vnull
       by-initial' : {ds : Differences} {i : FieldId} {u : ColumnType} {p : PartitionValue} {y : Value} → M.partition i ≡ p → Lacking p → Initial' ds i u y
           → Missing' outside ds i u y
       null-in-element' : {i : FieldId} {u : ColumnType} → Missing M i u vnull → Missing' inside [] i u vnull
@@ -129,7 +129,7 @@ module _ (M : Metadata) where
       own-partition : {ds : Differences} {i : FieldId} {u : ColumnType} {b : Bool} {p : PartitionValue} {y : Value} → Nested u → M.partition i ≡ p
           → valued M i u ≡ b → Unseen b p → Initial' ds i u y → Missing' outside (own_partition ∷ ds) i u y
       -- no default inside elements
-      in_element : {i : FieldId} {u : ColumnType} {z : Value} → Missing M i u z → (z ≡ vnull → ⊥) → Missing' inside (in_element_lem ∷ []) i u vnull
+      in_element_lem : {i : FieldId} {u : ColumnType} {z : Value} → Missing M i u z → (z ≡ vnull → ⊥) → Missing' inside (in_element ∷ []) i u vnull
 
     pub data MissingAll' : Differences → Columns → Values → Type 0 where
       missing-nil' : MissingAll' [] cnil vnil

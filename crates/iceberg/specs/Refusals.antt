@@ -1,7 +1,7 @@
 -- Where a reader of the specification reads on and documents 01 and 02 refuse to build: one rule for each reason, at
 -- the column where it is met, along matched paths. 11 to 28 are document 01's numbers, 51 and 53 to 55 are document
 -- 02's. A refused build is no reading; the list of reasons is complete (proofs/Refusing.antt). Nothing here rests on
--- the builder; `pairRule` is the documents' table of leaf pairs.
+-- the builder; `pair_rule` is the documents' table of leaf pairs.
 use Rattle.std.specs.Prelude.{ℕ, ◌≡◌, true, false, List, ◌∷◌}
 use Rattle.layout.specs.Tree.{LeafType, leaf_of, Label, ColumnType, cleaf, cstruct, clist, carray, Columns, ccons}
 use Rattle.layout.specs.declared.columns.FieldId.{FieldId}
@@ -50,7 +50,7 @@ pub data Extra : Columns → Columns → Type 0 where
 -- an optional column, or one of null (unknown)
 pub data Optional : Label → ColumnType → Type 0 where
   not-required : {a : Label} {t : ColumnType} → a.required ≡ false → Optional a t
-  of_null_lem : {a : Label} {l : LeafType} → is_null (leaf_of l) ≡ true → Optional a (cleaf l)
+  of_null_type : {a : Label} {l : LeafType} → is_null (leaf_of l) ≡ true → Optional a (cleaf l)
 
 -- ---- the reasons
 
@@ -88,7 +88,7 @@ module _ (p : Policy) (es : List Entry) (M : Metadata) where
       in_array : {q : Place} {n w : ℕ} {a b : Label} {u t : ColumnType} → Refuses inside n u t → Refuses q n (carray w b u) (carray w a t)
       -- Raise: an extra field
       extra_field : {q : Place} {gs fs : Columns} → p.extra_struct_fields ≡ ExtraColumnsPolicy.Raise → Extra fs gs → Refuses q 13 (cstruct gs) (cstruct fs)
-      in_struct_lem : {q : Place} {n : ℕ} {gs fs : Columns} → RefusesAny q p.missing_struct_fields 14 n gs fs → Refuses q n (cstruct gs) (cstruct fs)
+      in_struct : {q : Place} {n : ℕ} {gs fs : Columns} → RefusesAny q p.missing_struct_fields 14 n gs fs → Refuses q n (cstruct gs) (cstruct fs)
 
     -- `RefusesAny q m r n gs fs`: one of the table's columns gs is not read from the file's fs; r is the number of a
     -- missing one under Raise

@@ -24,11 +24,11 @@ use Rattle.numeric.specs.declared.floats.Format.TheVariants.{Binary32, Binary64}
 -- metadata says which.
 pub data PartitionValue : Type 0 where
   -- no identity transform has the field for its source
-  no_transform_lem : PartitionValue
+  no_transform : PartitionValue
   -- one has, and no value is present
-  not_present_lem : PartitionValue
+  not_present : PartitionValue
   -- a null is present
-  null_present_lem : PartitionValue
+  null_present : PartitionValue
   -- a value, not null, is present
   partitioned : Value → PartitionValue
 
@@ -44,8 +44,8 @@ pub record Metadata : Type 0 where
 
 -- rule 1 does not apply
 pub data Lacking : PartitionValue → Type 0 where
-  no_transform : Lacking no_transform_lem
-  not_present : Lacking not_present_lem
+  no_transform_lem : Lacking no_transform
+  not_present_lem : Lacking not_present
 
 -- "every other case": a field of this type has no value from this initial default; `{}` is a struct's and `[]` a list's
 -- alone
@@ -92,7 +92,7 @@ module _ (M : Metadata) where
   pub data Missing : FieldId → ColumnType → Value → Type 0 where
     -- 1. "the value from the partition metadata"
     by-partition : {i : FieldId} {u : ColumnType} {y : Value} → M.partition i ≡ partitioned y → Missing i u y
-    by-null-partition : {i : FieldId} {u : ColumnType} → M.partition i ≡ null_present_lem → Missing i u vnull
+    by-null-partition : {i : FieldId} {u : ColumnType} → M.partition i ≡ null_present → Missing i u vnull
     -- 3 and 4
     by-initial : {i : FieldId} {u : ColumnType} {p : PartitionValue} {y : Value} → M.partition i ≡ p → Lacking p → Initial i u y → Missing i u y
 

@@ -11,7 +11,7 @@ use Rattle.store.specs.code.Overlay.{overlay}
 use Rattle.store.proofs.Overlay.{overlay-append, length-overlay}
 use Rattle.layout.specs.Bytes.{Bytes}
 use Rattle.layout.specs.Tree.{DataType, struct, list, array, Fields, fnil, fcons, count_fields}
-use Rattle.layout.specs.Layout.{a_struct_lem, a_list, an_array}
+use Rattle.layout.specs.Layout.{a_struct, a_list, an_array}
 use Rattle.forms.specs.Form.{u16_bytes, u32_bytes, text_bytes, kind_form, form, form_fields}
 use Rattle.forms.specs.code.Readable.{ShortText}
 use Rattle.forms.specs.Depth.{depth_of, depth_of_fields}
@@ -80,13 +80,13 @@ module _ {depth : ℕ} {out : Bytes} {k len : ℕ} {o o' : Bytes} where
     readable = (w, W.readable);
   }
 
-  pub struct-writes : {n : ℕ} {fs : Fields} → Fills (kind_form (a_struct_lem n)) out k o → WritesFields fs depth o (k + 3) len o' → count_fields fs ≡ n → n <
+  pub struct-writes : {n : ℕ} {fs : Fields} → Fills (kind_form (a_struct n)) out k o → WritesFields fs depth o (k + 3) len o' → count_fields fs ≡ n → n <
       65536 → 3 + len ≤ 16384
       → Writes (struct fs) (depth + 1) out k (3 + len) o'
   unfolding form kind_form u16_bytes depth_of
-  struct-writes {n} {fs} F W e l h = go (subst (λ (m : ℕ). Fills (kind_form (a_struct_lem m)) out k o) (sym e) F)
+  struct-writes {n} {fs} F W e l h = go (subst (λ (m : ℕ). Fills (kind_form (a_struct m)) out k o) (sym e) F)
     where
-      go : Fills (kind_form (a_struct_lem (count_fields fs))) out k o → Writes (struct fs) (depth + 1) out k (3 + len) o'
+      go : Fills (kind_form (a_struct (count_fields fs))) out k o → Writes (struct fs) (depth + 1) out k (3 + len) o'
       go F = record {
         stored = fills-then F (form_fields fs) refl W.stored;
         long = fills-long F (form_fields fs) refl W.long;
@@ -142,7 +142,7 @@ module _ {out : Bytes} {k : ℕ} {o : Bytes} where
   unfolding kind_form u32_bytes u16_bytes
   array-left w F = let r = F.room in let z = same_size F in omega arith
 
-  pub struct_left : (n : ℕ) → Fills (kind_form (a_struct_lem n)) out k o → k + 3 ≤ length o
+  pub struct_left : (n : ℕ) → Fills (kind_form (a_struct n)) out k o → k + 3 ≤ length o
   unfolding kind_form u16_bytes
   struct_left n F = let r = F.room in let z = same_size F in omega arith
 

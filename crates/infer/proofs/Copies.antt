@@ -12,7 +12,7 @@ use Rattle.store.proofs.Overlay.{length-little}
 use Rattle.layout.specs.Bytes.{Bytes, AllBytes}
 use Rattle.layout.specs.Tree.{dtype_of}
 use Rattle.layout.specs.code.Answers.{head_res}
-use Rattle.layout.specs.Layout.{kind, a_struct_lem, a_list, an_array}
+use Rattle.layout.specs.Layout.{kind, a_struct, a_list, an_array}
 use Rattle.layout.specs.code.Stands.{TypeAt}
 use Rattle.layout.specs.declared.cursor.Cursor.{Cursor}
 use Rattle.layout.specs.declared.types.Head.{Head}
@@ -95,7 +95,7 @@ module _ {v : Edition} {s : Bytes} {c : Cursor} (T : TypeAt v 16 s c.at) {p : He
 
 pub struct-put : (n : ℕ) (out : Bytes) (k : ℕ) {a b c : Bytes} → k + 3 ≤ length out → a ≡ set out k 18 → b ≡ set a (k + 1) (n % 256) → c ≡ set b (k + 2)
     (n / 256)
-    → Fills (kind_form (a_struct_lem n)) out k c
+    → Fills (kind_form (a_struct n)) out k c
 unfolding kind_form u16_bytes overlay
 struct-put n out k h p q r =
     let e : k + 2 ≡ k + 1 + 1 = omega arith in

@@ -7,7 +7,7 @@ use native.Mathlib.Omega.{arith}
 use lib.ListN.{length}
 use Rattle.layout.specs.Bytes.{Bytes, AllBytes}
 use Rattle.layout.specs.Tree.{DataType, struct, list, array, Fields, dtype_of, fields_of}
-use Rattle.layout.specs.Layout.{a_struct_lem, a_list, an_array, type as typeRead}
+use Rattle.layout.specs.Layout.{a_struct, a_list, an_array, type as typeRead}
 use Rattle.layout.specs.code.Stands.{TypeAt}
 use Rattle.layout.specs.declared.bytes.Span.{Span}
 use Rattle.layout.specs.declared.columns.Siblings.TheVariants.{Free}
@@ -94,8 +94,8 @@ pub named-to : {s plan : Bytes} {r : Result Column} {q : Named} {n : Name} → N
 named-to {s} {plan} {r} I e = subst (λ (x : Named). NamedParts s plan r x) e I.parts
 
 module _ {v : Edition} {s : Bytes} {at : ℕ} {T : TypeAt v 16 s at} {r : Inside} (I : InsideIs v s at T r) where
-  pub in_struct_lem : {n : ℕ} {c : Cursor} → r ≡ Inside.Struct n c → StructIn v s at T n c.at
-  in_struct_lem e = subst (λ (x : Inside). InsideParts v s at T x) e I.parts
+  pub in_struct : {n : ℕ} {c : Cursor} → r ≡ Inside.Struct n c → StructIn v s at T n c.at
+  in_struct e = subst (λ (x : Inside). InsideParts v s at T x) e I.parts
 
   pub in_list : {c : Cursor} → r ≡ Inside.List c → ListIn v s at T c.at
   in_list e = subst (λ (x : Inside). InsideParts v s at T x) e I.parts
@@ -198,7 +198,7 @@ module _ {v : Edition} {s : Bytes} {d : ℕ} (T : TypeAt v 16 s d) {plan : Bytes
 
     pub struct_infers : (S : StructAt plan at P m) {i x : ℕ} (I : StructIn v s d T i x) {w : StructFields} → CountedIs plan S.input.end S.fields
         w → w.count < 65536
-        → type_of Γ S.input.tree ≡ gives (column n (dtype_of T.tree)) → Fills (kind_form (a_struct_lem w.count)) out k o
+        → type_of Γ S.input.tree ≡ gives (column n (dtype_of T.tree)) → Fills (kind_form (a_struct w.count)) out k o
         → FieldsIs (types_of (fields_of I.columns.columns) S.fields.selectors.trees) w.count depth o (k + 3) r o' → q ≡ behind_of 3 r →
         InferredIs (type_of Γ P.tree) (depth + 1) out k q o'
     struct_infers S I C b e F R g = behind_split (λ (x : Inferred). InferredIs (type_of Γ P.tree) (depth + 1) out k x o') 3 r g inferred_none (λ len f l.

@@ -4,7 +4,7 @@ ghost use Rattle.std.specs.Prelude.{◌≡◌, true, ℕ, ◌≤◌, length};
 ghost use Rattle.std.proofs.Math.Seq.{slice};
 ghost use Rattle.layout.specs.Limits.{longest_plan, deepest};
 ghost use Rattle.layout.specs.Tree.{dtype_of};
-ghost use Rattle.layout.specs.Layout.{a_struct_lem, a_list, an_array};
+ghost use Rattle.layout.specs.Layout.{a_struct, a_list, an_array};
 ghost use Rattle.layout.specs.code.Stands.{TypeAt};
 ghost use Rattle.forms.specs.Form.{kind_form};
 ghost use Rattle.infer.specs.code.Writing.{Fills, LeafCopied, CopiedIs, behind_of};
@@ -78,7 +78,7 @@ pub fn copy_type(s: &[u8], v: Edition, d: Cursor, depth: u8, out: &mut [u8], k: 
 // What a struct of `n` columns begins with.
 pub fn put_struct(n: u16, out: &mut [u8], k: usize) -> bool
     requires { (length out.old ≤ longest_plan) × (k ≤ length out.old) }
-    ensures { result ≡ true → Fills (kind_form (a_struct_lem n)) out.old k out.new }
+    ensures { result ≡ true → Fills (kind_form (a_struct n)) out.old k out.new }
 {
     if out.len() < k + 3 {
         return false;

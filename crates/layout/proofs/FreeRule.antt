@@ -5,7 +5,7 @@ use mathlib.Core.List.{List, [], ◌∷◌, ◌++◌}
 use mathlib.Core.Bool.{Bool, true, false, not}
 use Rattle.layout.specs.Parser.{Res, refuse, ok, next, choose, Parser, test}
 use Rattle.layout.specs.Tree.{Label, ColumnType, ccons, cstruct}
-use Rattle.layout.specs.Layout.{Head, a_leaf, a_struct_lem, a_list, an_array, label, kind, body, struct_type, list_type, array_type, element_label, columns, type}
+use Rattle.layout.specs.Layout.{Head, a_leaf, a_struct, a_list, an_array, label, kind, body, struct_type, list_type, array_type, element_label, columns, type}
 use Rattle.layout.specs.Layout.{repeats_any}
 use Rattle.layout.specs.declared.edition.Edition.{Edition}
 use Rattle.layout.specs.declared.columns.Siblings.{Siblings}
@@ -49,7 +49,7 @@ module _ (v : Edition) (r : Siblings) (s : List ℕ) where
     body-free : (k : Head) (at : ℕ) → Within (body v r p k s at) (body v Siblings.Free q k s at)
     unfolding body struct_type list_type array_type
     body-free (a_leaf l) at = same _
-    body-free (a_struct_lem n) at = next-within _ _ _ _ (columns_free n [] at) (λ cs i. same _)
+    body-free (a_struct n) at = next-within _ _ _ _ (columns_free n [] at) (λ cs i. same _)
     body-free a_list at = next-within _ _ _ _ (same (element_label v s at)) (λ l i. next-within _ _ _ _ (w i) (λ t j. same _))
     body-free (an_array x) at = next-within _ _ _ _ (same (element_label v s at)) (λ l i. next-within _ _ _ _ (w i) (λ t j. same _))
 

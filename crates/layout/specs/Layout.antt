@@ -41,7 +41,7 @@ unit = do
 -- what a type begins with: a whole leaf, or what stands before columns or an element
 pub data Head : Type 0 where
   a_leaf : LeafType → Head
-  a_struct_lem : ℕ → Head
+  a_struct : ℕ → Head
   a_list : Head
   an_array : ℕ → Head
 
@@ -116,7 +116,7 @@ decimal_head = do
 unfoldable pub struct_head : Parser Head
 struct_head = do
   n ← u16
-  pure (a_struct_lem n)
+  pure (a_struct n)
 
 unfoldable pub array_head : Parser Head
 array_head = do
@@ -213,7 +213,7 @@ struct_type v r n p = do
 -- the rest of a type, whose inner types p reads
 unfoldable pub body : Edition → Siblings → Parser ColumnType → Head → Parser ColumnType
 body v r p (a_leaf l) = pure (cleaf l)
-body v r p (a_struct_lem n) = struct_type v r n p
+body v r p (a_struct n) = struct_type v r n p
 body v r p a_list = list_type v p
 body v r p (an_array w) = array_type v w p
 

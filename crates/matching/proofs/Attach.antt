@@ -35,7 +35,7 @@ module _ (v : Matching) where
       a-same : {d : Defaults} {k : Position} {l : LeafType} → Attach d (cleaf l) k (cleaf l) (position k)
       a-cast : {d : Defaults} {k : Position} {t u : ColumnType} {x : DataType} {o : CastOption} → cast_fits_of (dtype_of t) x o ≡ true → dtype_of u ≡ x →
           Attach d u k t (cast (position k) x o)
-      a_struct : {d : Defaults} {k : Position} {fs gs : Columns} {ss : Selectors} {s : Selector} → distinct v fs ≡ true → AttachAll d gs fs ss →
+      a_struct_lem : {d : Defaults} {k : Position} {fs gs : Columns} {ss : Selectors} {s : Selector} → distinct v fs ≡ true → AttachAll d gs fs ss →
           struct_selector k fs ss ≡ s
           → Attach d (cstruct gs) k (cstruct fs) s
       a_list_lem : {d : Defaults} {k : Position} {a b : Label} {t u : ColumnType} {e s : Selector} → same_element v a b ≡ true → keeps_required a t b ≡ true
@@ -165,7 +165,7 @@ module _ (v : Matching) (p : Policy) where
         let (c, e) = demand-gives _ _ _ e in
         let (x, e) = demand-gives _ _ _ e in
         let (ss, r, e) = bind_gives (attach_fields v p d gs fs) _ e in
-        rw (struct_is t q) (a_struct c (attach_fields→ gs d fs r) (gives_eq e)))
+        rw (struct_is t q) (a_struct_lem c (attach_fields→ gs d fs r) (gives_eq e)))
     attach_transforms→ (clist b u) d k t e = unless-null d k (clist b u) t _ e (null-list b u) (λ e.
         let (x, q, e) = bind_gives (list_part t) _ e in
         let (c, e) = demand-gives _ _ _ e in

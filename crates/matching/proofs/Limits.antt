@@ -11,7 +11,7 @@ use Rattle.layout.specs.Bytes.{Bytes, same_bytes, AllBytes}
 use Rattle.layout.specs.Parser.{Res, refuse, ok, choose}
 use Rattle.layout.specs.Tree.{Label, ColumnType, cleaf, cstruct, clist, carray, Layout, Columns, cnil, ccons, count_columns, DataType, struct, list, array}
 use Rattle.layout.specs.Tree.{Fields, fnil, fcons, count_fields, fields_of}
-use Rattle.layout.specs.Layout.{element_label, mark, edition, counted, layout_from, layout, deepest, a_struct_lem, a_list, an_array}
+use Rattle.layout.specs.Layout.{element_label, mark, edition, counted, layout_from, layout, deepest, a_struct, a_list, an_array}
 use Rattle.layout.specs.code.Answers.{layout_of}
 use Rattle.layout.specs.declared.read.LayoutRead.{LayoutRead}
 use Rattle.layout.specs.declared.edition.Edition.{Edition}
@@ -66,7 +66,7 @@ pub struct-within : (fs : Fields) → within_limits (struct fs) ≡ true → Wit
 unfolding depth_of form
 struct-within fs e =
     let (p, q) = limits (struct fs) e in
-    let l = length-append (kind_form (a_struct_lem (count_fields fs))) (form_fields fs) in
+    let l = length-append (kind_form (a_struct (count_fields fs))) (form_fields fs) in
     record { deep = omega arith; long = omega arith }
 
 pub list-within : (t : DataType) → within_limits (list t) ≡ true → within_limits t ≡ true

@@ -21,7 +21,7 @@ use Rattle.plan.proofs.Exact.{leaf-meets}
 use Rattle.matching.specs.Default.{Defaults}
 use Rattle.matching.specs.Build.{renamed, is_position, list_selector, array_selector, fills_required}
 use Rattle.matching.proofs.Lookup.{matches, at_eq, never_absent}
-use Rattle.matching.proofs.Attach.{Attach, a-same, a-cast, a_struct, a_list_lem, a_array, AttachAll, a_nil, a-found, a-missing}
+use Rattle.matching.proofs.Attach.{Attach, a-same, a-cast, a_struct_lem, a_list_lem, a_array, AttachAll, a_nil, a-found, a-missing}
 use Rattle.matching.proofs.InPlace.{is_bare_lem, straight, struct_selector_lem}
 use Rattle.matching.proofs.Required.{keeps-allowed}
 
@@ -134,7 +134,7 @@ module _ (v : Matching) where
         → Taken ns k q r t → meets (nullness_of ns s) r u ≡ true
     attach-meets a-same ns q r T = rw T.is T.may
     attach-meets (a-cast {t = t} {u} p z) ns q r T = rw T.is (leaf-meets (top_of (given q t)) r u T.may)
-    attach-meets (a_struct {k = k} {fs} {gs} {ss} y h z) ns q r T =
+    attach-meets (a_struct_lem {k = k} {fs} {gs} {ss} y h z) ns q r T =
         rw (← z, struct_selector_lem k fs ss) (struct-meets ns k q r fs gs ss _ refl T (attach_all_meets h))
     attach-meets (a_list_lem {k = k} {a = a} {b} {t} {u} {e = x} y m h z) ns q r T =
         let one = ncons (given a.required t) nnil in

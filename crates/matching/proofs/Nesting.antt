@@ -18,7 +18,7 @@ use Rattle.plan.proofs.Typed.{At, here, there}
 use Rattle.matching.specs.Default.{Defaults}
 use Rattle.matching.specs.Build.{renamed, list_selector, array_selector}
 use Rattle.matching.proofs.Lookup.{counterpart-at}
-use Rattle.matching.proofs.Attach.{Attach, a-same, a-cast, a_struct, a_list_lem, a_array, AttachAll, a_nil, a-found, a-missing}
+use Rattle.matching.proofs.Attach.{Attach, a-same, a-cast, a_struct_lem, a_list_lem, a_array, AttachAll, a_nil, a-found, a-missing}
 use Rattle.matching.proofs.InPlace.{struct_selector_lem}
 use Rattle.matching.proofs.Limits.{ShortNames, ShortNamesAll}
 use Rattle.matching.proofs.Fitting.{Good, good_none, missing-fits}
@@ -53,7 +53,7 @@ module _ (v : Matching) where
     pub attach_nests : {d : Defaults} {u t : ColumnType} {k : Position} {s : Selector} → Attach v d u k t s → nesting s ≤ 2 * depth_of (dtype_of u)
     attach_nests a-same = omega arith
     attach_nests (a-cast {u = u} r p) = omega (arith, depth-least (dtype_of u))
-    attach_nests (a_struct {k = k} {fs} {gs} {ss} c h r) =
+    attach_nests (a_struct_lem {k = k} {fs} {gs} {ss} c h r) =
         rw (← r, struct_selector_lem k fs ss) (choose-nests _ k _ (struct_mapping (position k) ss) (omega (arith, attach_all_nests h)) (omega arith))
     attach_nests (a_list_lem {k = k} {a} {b} {u = u} {e = x} y m h r) =
         rw (← r) (choose-nests _ k _ (list_mapping (position k) (renamed v b a x))
@@ -112,7 +112,7 @@ module _ (v : Matching) where
         → ShortNames u → Formed s
     attach_formed a-same g h i r z n = f_position h
     attach_formed (a-cast {u = u} c p) g h i r z n = rw (← p) (f_cast (f_position h) (formed_type (dtype_of u) r z))
-    attach_formed (a_struct {k = k} {fs} {gs} {ss} c a q) g h i r z n =
+    attach_formed (a_struct_lem {k = k} {fs} {gs} {ss} c a q) g h i r z n =
         let e = attached_count v a in
         let b = r.0 in
         rw (← q, struct_selector_lem k fs ss) (choose_formed _ h (f_struct (f_position h) (omega arith)

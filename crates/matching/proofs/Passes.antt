@@ -16,7 +16,7 @@ use Rattle.plan.proofs.Typed.{At, here, Typed, t_position, t_constant, t_cast, t
 use Rattle.matching.specs.Default.{Defaults}
 use Rattle.matching.specs.Build.{renamed, is_position, list_selector, array_selector, first}
 use Rattle.matching.proofs.Lookup.{matches, counterpart-at, all}
-use Rattle.matching.proofs.Attach.{Attach, a-same, a-cast, a_struct, a_list_lem, a_array, AttachAll, a_nil, a-found, a-missing}
+use Rattle.matching.proofs.Attach.{Attach, a-same, a-cast, a_struct_lem, a_list_lem, a_array, AttachAll, a_nil, a-found, a-missing}
 use Rattle.matching.proofs.InPlace.{is_bare_lem, straight, struct_selector_lem, renamed-bare}
 use Rattle.matching.proofs.Untouched.{bare→equal, straight→equal}
 use Rattle.matching.proofs.Limits.{WithinLimits, first-within, rest-within, struct-within, list-within, array-within}
@@ -80,7 +80,7 @@ module _ (v : Matching) where
         → Typed Γ s n (dtype_of u)
     attach_typed a-same g a z = t_position a
     attach_typed (a-cast r p) g a z = rw p (t_cast (t_position a) r (rw p at z))
-    attach_typed (a_struct {k = k} {fs} {gs} {ss} c h r) g a z =
+    attach_typed (a_struct_lem {k = k} {fs} {gs} {ss} c h r) g a z =
         rw (← r, struct_selector_lem k fs ss)
         (struct-typed ss (straight 0 (fields_of fs) ss) (straight→equal v h (fields_of fs) all) a (attach_all_typed h g (struct-within (fields_of gs) z)) z)
     attach_typed (a_list_lem {a = x} {b} {u = u} {e = e} y m h r) g a z =

@@ -28,7 +28,7 @@ use Rattle.matching.specs.Default.{Defaults}
 use Rattle.matching.specs.Build.{renamed, is_position, list_selector, array_selector, first}
 use Rattle.matching.specs.Due.{due_leaf, or_else_null, from_counterpart, due, dues}
 use Rattle.matching.proofs.Lookup.{counterpart-at}
-use Rattle.matching.proofs.Attach.{Attach, a-same, a-cast, a_struct, a_list_lem, a_array, AttachAll, a_nil, a-found, a-missing}
+use Rattle.matching.proofs.Attach.{Attach, a-same, a-cast, a_struct_lem, a_list_lem, a_array, AttachAll, a_nil, a-found, a-missing}
 use Rattle.matching.proofs.InPlace.{is_bare_lem, straight, struct_selector_lem}
 use Rattle.matching.proofs.Passes.{at-element}
 
@@ -210,7 +210,7 @@ module _ (v : Matching) where
         → eval ρ s ≡ due v d u t (value_at ρ k.0)
     attach_due (a-same {l = l}) a h = rw (equal_types-refl (leaf l))
     attach_due (a-cast {d} {k} {t} {u} {o = o} r p) a h = rw (← p) (cast-due v d t u o (rw (← p) at r) (at-fits a h))
-    attach_due (a_struct {k = k} {fs} {ss = ss} c g r) a h = rw (← r, struct_selector_lem k fs ss) (struct-due h k _ ss _ refl a (λ xs f. attach_all_due g f))
+    attach_due (a_struct_lem {k = k} {fs} {ss = ss} c g r) a h = rw (← r, struct_selector_lem k fs ss) (struct-due h k _ ss _ refl a (λ xs f. attach_all_due g f))
     attach_due (a_list_lem {k = k} {a = x} {b} {e = e} y m g r) a h = rw (← r) (list-due h k _ (renamed v b x e) _ refl a
         (λ y f. renamed-eval _ v b x e ∙ attach_due g at-element (only f)))
     attach_due (a_array {k = k} {a = x} {b} {e = e} y m g r) a h = rw (← r) (array-due h k _ (renamed v b x e) _ refl a

@@ -38,8 +38,8 @@ use Rattle.matching.proofs.Marked.{attach_all_meets}
 use Rattle.matching.proofs.Right.{attach_all_due}
 use Rattle.matching.proofs.Nesting.{attach_all_nests, attached_count, attach_all_formed}
 
--- `LayoutLimits` holds of the columns of every layout that was read (`layout-limits`); `Good` of every table that was
--- read (`table-good`) and of none (`Good-none`). Calls.antt has the same for the calls over bytes, where neither is
+-- `LayoutLimits` holds of the columns of every layout that was read (`layout_limits`); `Good` of every table that was
+-- read (`table_good`) and of none (`Good-none`). Calls.antt has the same for the calls over bytes, where neither is
 -- left.
 module _ (v : Matching) (p : Policy) (d : Defaults) (Γ Δ : Columns) {ss : Selectors} (built : build v p d Γ Δ ≡ accepted ss) where
   -- its types pass the check, up to 33

@@ -111,7 +111,7 @@ module _ (v : Matching) (p : Policy) where
       (attach_transforms v p d u k t >>= λ s. gives (renamed v b m s))
   found d b u m e k t = passed 55 (attach_transforms v p d u k t >>= λ s. gives (renamed v b m s)) (keeps-optional m t b e)
 
-  -- the missing column's clause is `missing-unmarked`
+  -- the missing column's clause is `missing_unmarked`
   pub fields_unmarked : (d : Defaults) (b : Label) (u : ColumnType) (gs fs : Columns) → b.required ≡ false
       → attach_fields v p d (ccons b u gs) fs
       ≡ (sought (counterpart v b fs) (missing d (inserts p.missing_struct_fields) 14 b u)
@@ -131,7 +131,7 @@ module _ (v : Matching) (p : Policy) where
   column_unmarked d b u fs e =
       λ i. sought (counterpart v b fs) (missing d (inserts p.missing_columns) 11 b u) (λ k m t. found d b u m e k t i)
 
--- what is built by name has no mark (`layout-older`, crate values)
+-- what is built by name has no mark (`layout_older`, crate values)
 pub by_name_older : (v : Edition) → takes ByName v ≡ true → v ≡ Three → ⊥
 by_name_older One e q = clash (cc)
 by_name_older Two e q = clash (cc)

@@ -28,7 +28,7 @@ use Rattle.matching.specs.Build.{renamed, distinct, is_position, list_selector, 
 use Rattle.matching.specs.Untouched as Same
 use Rattle.matching.proofs.Lookup.{counterpart-at, at_eq, never_absent, at_unique, Suffix, all, suffix_at, suffix_next, suffix_equal, first-named}
 use Rattle.matching.proofs.InPlace.{bare, is_bare_lem, bare-is, straight, struct_selector_lem, left_out, renamed-bare, renamed-name}
-use Rattle.matching.proofs.Attach.{Attach, a-same, a-cast, a_struct, a_list_lem, a_array, AttachAll, a_nil, a-found, a-missing}
+use Rattle.matching.proofs.Attach.{Attach, a-same, a-cast, a_struct_lem, a_list_lem, a_array, AttachAll, a_nil, a-found, a-missing}
 
 fcons_eq : {n m : Bytes} {t u : DataType} {fs gs : Fields} → n ≡ m → t ≡ u → fs ≡ gs → fcons n t fs ≡ fcons m u gs
 fcons_eq p q r = cc
@@ -43,7 +43,7 @@ module _ (v : Matching) where
     pub bare→equal : {d : Defaults} {u t : ColumnType} {k j : Position} {s : Selector} → Attach v d u k t s → s ≡ position j → (j ≡ k) × (dtype_of t ≡ dtype_of u)
     bare→equal a-same e = (cc, refl)
     bare→equal (a-cast r p) e = clash (cc)
-    bare→equal (a_struct {k = k} {fs} {ss = ss} c h r) e =
+    bare→equal (a_struct_lem {k = k} {fs} {ss = ss} c h r) e =
         let (b, q) = left_out (straight 0 (fields_of fs) ss) (struct_mapping (position k) ss) refl (sym (struct_selector_lem k fs ss) ∙ (r ∙ e)) in
         (q, ap struct (straight→equal h (fields_of fs) all b))
     bare→equal (a_list_lem {a = a} {b} {e = x} y m h r) e =
@@ -90,7 +90,7 @@ mutual
   pub equal→bare : {d : Defaults} {u t : ColumnType} {k : Position} {s : Selector} → Attach ByName d u k t s → dtype_of t ≡ dtype_of u → s ≡ position k
   equal→bare a-same e = refl
   equal→bare (a-cast {u = u} {o = o} r p) e = cast-differs (dtype_of u) o (rw (← p, e) at r)
-  equal→bare (a_struct {k = k} {fs} {gs} {ss} c h r) e =
+  equal→bare (a_struct_lem {k = k} {fs} {gs} {ss} c h r) e =
       let p : fields_of fs ≡ fields_of gs = cc in
       sym r ∙ straight_bare k fs ss p (equal→straight h c (suffix_equal p))
   equal→bare (a_list_lem {e = x} y m h r) e = sym r ∙ rw (bare-is first x (equal→bare h (cc)))
@@ -148,3 +148,4 @@ column-untouched i n z (a-found {b = b} {u = u} {gs = gs} q m h r hs) (s_there y
 column-untouched i n z (a-missing {gs = gs} q v m r hs) s_here e = let (p, w) = at_here gs i n (omega arith) e in rw (← p, ← w) (missing-untouched q)
 column-untouched i n z (a-missing {b = b} {u = u} {gs = gs} q v m r hs) (s_there y) e = column-untouched (i + 1) n (omega arith) hs y
     (sym (at-later b u gs i n (omega arith)) ∙ e)
+column-untouched {b = b} {u = u} {k = k} {m = m} i n z (a_nil {d = d} {fs = fs}) x22 e = elim x22 [ ]

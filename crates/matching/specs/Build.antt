@@ -186,7 +186,7 @@ unfoldable pub sought : Lookup → Result Selector → (Position → Label → C
 sought absent r f = r
 sought (present k l t) r f = f k l t
 
--- `attachTransforms v p d u k t`: the selector that takes position k, of the incoming type t, to the target type u. 55
+-- `attach_transforms v p d u k t`: the selector that takes position k, of the incoming type t, to the target type u. 55
 -- is "tested before their types (elements: after 25)".
 unfoldable mutual
   pub attach_transforms : Matching → Policy → Defaults → ColumnType → Position → ColumnType → Result Selector

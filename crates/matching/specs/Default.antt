@@ -9,7 +9,7 @@ use Rattle.values.specs.Value.{Value, vnull, vstruct, Values, vnil, vcons}
 use Rattle.defaults.specs.Lookup.{Taken, refused, nothing, taken}
 use Rattle.plan.specs.Result.{Result, gives, refuses, ◌>>=◌, demand}
 
--- What is asked for a default: by number a table at a source index (`getDefaultValue`). By name, and inside elements,
+-- What is asked for a default: by number a table at a source index (`get_default_value`). By name, and inside elements,
 -- there is none.
 abbrev pub Defaults : Type 0
 Defaults = FieldId → Taken

@@ -13,11 +13,11 @@ use Rattle.matching.specs.Default.{Defaults, no_defaults, missing_value}
 -- ---- the incoming type's parts. A type of another kind, which an accepted build has only where it is null, has none:
 -- its values are null.
 
-abbrev pub IsLeafIn : ColumnType → LeafType
-IsLeafIn (cleaf l) = l
-IsLeafIn (cstruct cs) = null
-IsLeafIn (clist l t) = null
-IsLeafIn (carray w l t) = null
+abbrev pub leaf_in : ColumnType → LeafType
+leaf_in (cleaf l) = l
+leaf_in (cstruct cs) = null
+leaf_in (clist l t) = null
+leaf_in (carray w l t) = null
 
 abbrev pub fields_in : ColumnType → Columns
 fields_in (cleaf l) = cnil
@@ -52,7 +52,7 @@ from_counterpart (present k l t) x f vs = f t (value_at vs k.0)
 -- order."
 unfoldable mutual
   pub due : Matching → Defaults → ColumnType → ColumnType → Value → Value
-  due v d (cleaf u) t x = due_leaf (IsLeafIn t) u x
+  due v d (cleaf u) t x = due_leaf (leaf_in t) u x
   due v d (cstruct gs) t x = on_struct (λ vs. dues v d gs (fields_in t) vs) x
   due v d (clist l u) t x = on_list (λ y. due v no_defaults u (element_in t) y) x
   due v d (carray w l u) t x = on_array (λ y. due v no_defaults u (element_in t) y) x

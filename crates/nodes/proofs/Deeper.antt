@@ -5,7 +5,7 @@ use native.Mathlib.Omega.{arith}
 use Rattle.layout.specs.Bytes.{Bytes}
 use Rattle.layout.specs.Parser.{Parser}
 use Rattle.layout.specs.Tree.{Label, ColumnType}
-use Rattle.layout.specs.Layout.{Head, a_leaf, a_struct_lem, a_list, an_array, label, kind, body, struct_type, list_type, array_type, element_label, columns, type, deepest}
+use Rattle.layout.specs.Layout.{Head, a_leaf, a_struct, a_list, an_array, label, kind, body, struct_type, list_type, array_type, element_label, columns, type, deepest}
 use Rattle.layout.specs.code.Stands.{TypeAt, ColumnsAt}
 use Rattle.layout.specs.declared.edition.Edition.{Edition}
 use Rattle.layout.specs.declared.columns.Siblings.{Siblings}
@@ -26,7 +26,7 @@ module _ (v : Edition) (r : Siblings) (s : Bytes) where
     body-within : (k : Head) (at : ℕ) → Within (body v r p k s at) (body v r q k s at)
     unfolding body struct_type list_type array_type
     body-within (a_leaf l) at = same _
-    body-within (a_struct_lem n) at = next-within _ _ _ _ (columns_within n [] at) (λ cs i. same _)
+    body-within (a_struct n) at = next-within _ _ _ _ (columns_within n [] at) (λ cs i. same _)
     body-within a_list at = next-within _ _ _ _ (same (element_label v s at)) (λ l i. next-within _ _ _ _ (w i) (λ t j. same _))
     body-within (an_array x) at = next-within _ _ _ _ (same (element_label v s at)) (λ l i. next-within _ _ _ _ (w i) (λ t j. same _))
 

@@ -76,10 +76,10 @@ module _ {v : Edition} {d : ℕ} {s : Bytes} {c : Cursor} (P : TypeAt v d s c.at
       )
 
   module _ {b : Cursor} {r : FormSize} where
-    pub in_struct_lem : {n : ℕ} → p ≡ Head.Struct n b → ((Q : ColumnsAt v (d - 1) s n b.at) → SizesOf (fields_of Q.columns) Q.end r) → InsideOf v d
+    pub in_struct : {n : ℕ} → p ≡ Head.Struct n b → ((Q : ColumnsAt v (d - 1) s n b.at) → SizesOf (fields_of Q.columns) Q.end r) → InsideOf v d
         s c.at P b.at r.size r.deep r.end.at
     unfolding dtype_of depth_of
-    in_struct_lem f g =
+    in_struct f g =
         let S = struct_at P e f in
         let G = g S.inner in
         record {

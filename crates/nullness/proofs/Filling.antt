@@ -8,7 +8,7 @@ use native.Mathlib.Omega.{arith}
 use Rattle.layout.specs.Bytes.{Bytes}
 use Rattle.layout.specs.Parser.{ok, next, u16}
 use Rattle.layout.specs.Tree.{Label, Columns, cnil, dtype_of, fields_of}
-use Rattle.layout.specs.Layout.{Head, a_struct_lem, a_list, an_array, kind, label as label_of, element_label, columns as columns_of_of, type as type_of, deepest}
+use Rattle.layout.specs.Layout.{Head, a_struct, a_list, an_array, kind, label as label_of, element_label, columns as columns_of_of, type as type_of, deepest}
 use Rattle.layout.specs.code.Answers.{head_res, label_res, label_at, moved_of, short_res}
 use Rattle.layout.specs.code.Stands.{TypeAt}
 use Rattle.layout.specs.declared.columns.Label.{Label as LabelSpan}
@@ -84,12 +84,12 @@ module _ {s : Bytes} {nulls : List ℕ} {t : ℕ} {x : Value} where
     struct_nulls {n} {d} j e R =
         parts-nulls (ap is_null_value e) (λ k b P p o I u. ap (λ (y : Value). some_part k (λ z. some_sought Sought.Null p z) y) e ∙ (field k b P).clean p o I u)
       where
-        q : kind s t ≡ ok (a_struct_lem n) d.at
+        q : kind s t ≡ ok (a_struct n) d.at
         q = sym g ∙ ap (head_res s) j
 
         field : (k b : ℕ) → PartStart s t k b → NullsOf s nulls b (value_at vs k)
         field k b (p_field {n = i} {m = m} f lt F) =
-            let z : ok (a_struct_lem i) m ≡ ok (a_struct_lem n) d.at = sym f ∙ q in
+            let z : ok (a_struct i) m ≡ ok (a_struct n) d.at = sym f ∙ q in
             let a : i ≡ n = cc in
             let c : m ≡ d.at = cc in
             R.field k b (omega (arith, lt)) (subst (λ (o : ℕ). FieldStart s o k b) c F)

@@ -17,7 +17,7 @@ use Rattle.walk.specs.code.Parts.{HeadIs}
 use Rattle.walk.specs.code.Walks.{WalkAt}
 use Rattle.walk.specs.declared.walk.Walk.{Walk}
 use Rattle.walk.specs.declared.head.SelectorHead.{SelectorHead}
-use Rattle.walk.proofs.Heads.{is-constant, is-cast, is-rename, is_struct_lem, is_list_lem, is-array}
+use Rattle.walk.proofs.Heads.{is-constant, is-cast, is-rename, is_struct_mapping, is_list_mapping, is-array}
 use Rattle.walk.proofs.Walks.{top-frames, some-inner, path-some, path-none}
 use Rattle.walk.proofs.Moving.{walk_is}
 use Rattle.overflow.specs.code.Some.{some_sought}
@@ -85,11 +85,11 @@ module _ {plan : Bytes} {w : Walk} {x : State} (M : WalkAt plan w x) where
 
         pub struct_stop_lem : q ≡ SelectorHead.Struct c → r ≡ stop_of N x
         unfolding stop_at
-        struct_stop_lem f = selected (walk_is M (is_struct_lem H f).is) h
+        struct_stop_lem f = selected (walk_is M (is_struct_mapping H f).is) h
 
         pub list_stop_lem : q ≡ SelectorHead.List c → r ≡ stop_of N x
         unfolding stop_at
-        list_stop_lem f = selected (walk_is M (is_list_lem H f).is) h
+        list_stop_lem f = selected (walk_is M (is_list_mapping H f).is) h
 
         pub array_stop : q ≡ SelectorHead.Array c → r ≡ stop_of N x
         unfolding stop_at

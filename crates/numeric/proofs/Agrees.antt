@@ -1,6 +1,6 @@
 -- At binary32 and binary64 the definitions agree with the logic's own account of IEEE 754, `lib.Ieee`: rounding
 -- (`round-bits`), integers (`integer-bits`), the number of a pattern (`value-bits`), the NaN (`nan-bits`), and a float
--- in another format (`converted-bits`, `ieee-float`). Assumes nothing.
+-- in another format (`converted-bits`, `ieee_float`). Assumes nothing.
 use mathlib.Core.Path.{◌≡◌, refl, sym, ap, ap₂, ◌∙◌, subst}
 use mathlib.Core.Logic.{◌⊎◌, inl, inr}
 use mathlib.Core.Bool.{Bool, true, false, not, cond}

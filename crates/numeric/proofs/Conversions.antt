@@ -200,7 +200,7 @@ module _ (p emax q gmax b : ℕ) where
       go (inr k) = ap (sign_of q gmax) (converted-finite k) ∙ parts_sign q gmax (b / sign_bit p emax) (finite p emax q gmax (unsigned_of p emax b))
           (rounded_le q gmax _ _)
 
--- ---- `fromInteger`: its sign, and what lies below
+-- ---- `from_integer`: its sign, and what lies below
 
 pub integer-parts : (p emax : ℕ) (z : ℤ) → from_integer p emax z ≡ cond (non_neg z) 0 1 % 2 * sign_bit p emax + rounded p emax (nat_abs z) 1
 unfolding from_integer

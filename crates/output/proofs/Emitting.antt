@@ -22,7 +22,7 @@ use Rattle.plan.specs.Selector.{Selector, position, constant, cast, rename, stru
 use Rattle.plan.specs.Reach.{parts}
 use Rattle.plan.specs.Run.{value_at, clean, clean_all_of, map_values}
 use Rattle.walk.specs.code.State.{Frame, fields, element, State, state}
-use Rattle.walk.specs.code.Moves.{Moves, m_here, m_field, m_list, m_array, Part, p_field, p_list, p_array, Mapping, is_struct_lem, is_list_lem, is-array}
+use Rattle.walk.specs.code.Moves.{Moves, m_here, m_field, m_list, m_array, Part, p_field, p_list, p_array, Mapping, is_struct_mapping, is_list_mapping, is-array}
 use Rattle.walk.specs.code.Walks.{Entries, e_none, e_more, WalkAt, StepsTo, rank}
 use Rattle.walk.specs.code.Values.{opened, given, givens, within, state_value}
 use Rattle.walk.specs.declared.walk.Walk.{Walk}
@@ -132,9 +132,9 @@ shape_array f (vlist vs) = shaped_some refl refl refl
 shape_array f (varray vs) = shaped_some refl refl refl
 
 shape_at : (ρ : Values) (E : List Frame) {s : Selector} → Mapping s → Shaped (state_value ρ (state s E [])) (is_list s)
-shape_at ρ E (is_struct_lem {s} {ss}) = subst (λ (v : Value). Shaped v false) (sym (struct-value ρ s ss E))
+shape_at ρ E (is_struct_mapping {s} {ss}) = subst (λ (v : Value). Shaped v false) (sym (struct-value ρ s ss E))
     (shape_struct (λ vs. givens vs ss) (state_value ρ (state s E [])))
-shape_at ρ E (is_list_lem {s} {e}) =
+shape_at ρ E (is_list_mapping {s} {e}) =
     subst (λ (v : Value). Shaped v true) (sym (list-value ρ s e E)) (shape_list (map_values (λ v. given (vcons v vnil) e)) (state_value ρ (state s E [])))
 shape_at ρ E (is-array {s} {e}) =
     subst (λ (v : Value). Shaped v false) (sym (array-value ρ s e E)) (shape_array (map_values (λ v. given (vcons v vnil) e)) (state_value ρ (state s E [])))
@@ -161,10 +161,10 @@ count-struct ss (varray vs) h = omega (arith, h, count-givens vs ss)
 
 part_at : (ρ : Values) (E : List Frame) {s : Selector} (i : ℕ) → Mapping s → i < count_values (parts (state_value ρ (state s E []))) → (f : Frame) ×
     (t : Selector) × Part s i f t
-part_at ρ E i (is_struct_lem {s} {ss}) h =
+part_at ρ E i (is_struct_mapping {s} {ss}) h =
     let (t, n) = nth_exists ss i (count-struct ss (state_value ρ (state s E [])) (subst (λ (v : Value). i < count_values (parts v)) (struct-value ρ s ss E) h)) in
     (fields s, t, p_field n)
-part_at ρ E i (is_list_lem {s} {e}) h = (element s i, e, p_list)
+part_at ρ E i (is_list_mapping {s} {e}) h = (element s i, e, p_list)
 part_at ρ E i (is-array {s} {e}) h = (element s i, e, p_array)
 
 pub part_exists : (ρ : Values) (x : State) (i : ℕ) → Mapped x → i < count_values (parts (state_value ρ x)) → (f : Frame) × (t : Selector) × Part
@@ -232,10 +232,10 @@ module _ {v : Edition} {lay : Bytes} {n t : ℕ} {rec plan : Bytes} {w : Walk} (
     mapped-emits {out} {k} {r} {new} f = subst (λ (u : Value). Emits out k (encode_value u) r new) (sym mapped-same) (f mapped_at M)
 
 pub struct-mapped : {x : State} {n : ℕ} → StructIs x n → Mapped x
-struct-mapped {x} S = record { mapping = subst Mapping (sym S.selector) is_struct_lem; path = S.path }
+struct-mapped {x} S = record { mapping = subst Mapping (sym S.selector) is_struct_mapping; path = S.path }
 
 pub list-mapped : {x : State} → ListIs x → Mapped x
-list-mapped {x} S = record { mapping = subst Mapping (sym S.selector) is_list_lem; path = S.path }
+list-mapped {x} S = record { mapping = subst Mapping (sym S.selector) is_list_mapping; path = S.path }
 
 pub array-mapped : {x : State} → ArrayIs x → Mapped x
 array-mapped {x} S = record { mapping = subst Mapping (sym S.selector) is-array; path = S.path }

@@ -26,7 +26,7 @@ use Rattle.overflow.specs.declared.stop.Stop.TheVariants.{No, Yes, Input, Outwar
 use Rattle.overflow.proofs.Before.{small-before}
 use Rattle.overflow.proofs.Scoped.{TypedState}
 use Rattle.overflow.proofs.Moving.{outward-fields, outward-element, rename-typed, cast-typed, struct-typed, list-typed, array_typed, rename-asked}
-use Rattle.overflow.proofs.Stopping.{column-asked, constant-none, constant-top, constant-fields, constant-element, a_struct, a_list_lem, an_array_lem, cast-path}
+use Rattle.overflow.proofs.Stopping.{column-asked, constant-none, constant-top, constant-fields, constant-element, a_struct_lem, a_list_lem, an_array_lem, cast-path}
 use Rattle.overflow.proofs.Stopping.{cast_nested, cast-other, cast-parts, cast-element, cast-beyond, struct-end, list-end, array-end, struct-end-element}
 use Rattle.overflow.proofs.Stopping.{struct-end-beyond, list-end-parts, list-end-beyond, array-end-parts, array-end-beyond, no_field, no_element_lem}
 
@@ -109,7 +109,7 @@ module _ {Γ : Fields} {ρ : Values} (r : FitsAllOver Γ ρ) where
         (cast_stop p t w)
     unfolding cast_stop
     cast-means (leaf l) [] w k T = leaf-means l w k T
-    cast-means (struct fs) [] w k T = cast_nested r w [] a_struct T
+    cast-means (struct fs) [] w k T = cast_nested r w [] a_struct_lem T
     cast-means (list t) [] w k T = cast_nested r w [] a_list_lem T
     cast-means (array n t) [] w k T = cast_nested r w [] an_array_lem T
     cast-means t (j ∷ p) w k T = cast-path r w j p T

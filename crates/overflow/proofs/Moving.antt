@@ -16,7 +16,7 @@ use Rattle.plan.proofs.Typed.{Typed, t_cast, t_rename, t_struct, t_list, t_array
 use Rattle.plan.proofs.Preserve.{eval-over}
 use Rattle.walk.specs.code.State.{Frame, fields, element, State, state}
 use Rattle.walk.specs.code.Moves.{Moves, m_here, m_rename, m_field, m_list, m_array, m_leave, m_leave-element}
-use Rattle.overflow.specs.code.Some.{any_of, some_part, some, in_struct, in_elements, some_in, asked}
+use Rattle.overflow.specs.code.Some.{any_of, some_part, some, in_struct_lem, in_elements, some_in, asked}
 use Rattle.overflow.specs.declared.want.Want.{Want}
 use Rattle.overflow.proofs.Scoped.{Scoped, in_fields, in_list, in_array, TypedState, in_same}
 
@@ -51,6 +51,7 @@ module _ {Γ : Fields} {E : List Frame} where
         TypedState Γ (state x (fields s ∷ E) q)
     nth-typed {fs = fs} d (t_cons {n = m} {t = u} e ds) s_here = record { scope = fs; name = m; type = u; scoped = in_fields c d; typed = e }
     nth-typed d (t_cons e ds) (s_there a) = nth-typed d ds a
+    nth-typed {s = s} {k = k} {m = m} d Rattle.plan.proofs.Typed.t_nil x10 = elim x10 [ ]
 
     field-inner : {n : Bytes} {t : DataType} {s x : Selector} {ss : Selectors} {k : ℕ} → Nth ss k x → Typed Δ (struct_mapping s ss) n t → TypedState Γ
         (state x (fields s ∷ E) q)
@@ -101,8 +102,8 @@ any-mapped f g (vcons v vs) = ap (λ b. f (g v) || b) (any-mapped f g vs)
 
 module _ (f : Value → Bool) (k : ℕ) where
   into-field : {fs : Fields} {v : Value} {ss : Selectors} {x : Selector} → Nth ss k x → FitsOver (struct fs) v
-      → some_part k f (on_struct (λ vs. evals vs ss) v) ≡ in_struct (λ vs. f (eval vs x)) v
-  unfolding some_part on_struct in_struct
+      → some_part k f (on_struct (λ vs. evals vs ss) v) ≡ in_struct_lem (λ vs. f (eval vs x)) v
+  unfolding some_part on_struct in_struct_lem
   into-field a over-null = refl
   into-field a (over-struct {vs = vs} h) = ap f (nth-value vs a)
 
@@ -120,8 +121,8 @@ module _ (f : Value → Bool) (k : ℕ) where
 
   -- ---- out of a mapping
 
-  from_field : {fs : Fields} {v : Value} → FitsOver (struct fs) v → in_struct (λ vs. f (value_at vs k)) v ≡ some_part k f v
-  unfolding some_part in_struct
+  from_field : {fs : Fields} {v : Value} → FitsOver (struct fs) v → in_struct_lem (λ vs. f (value_at vs k)) v ≡ some_part k f v
+  unfolding some_part in_struct_lem
   from_field over-null = refl
   from_field (over-struct h) = refl
 
@@ -143,7 +144,7 @@ module _ {Γ : Fields} {ρ : Values} (r : FitsAllOver Γ ρ) (w : Want) (p : Lis
         → asked ρ (state (struct_mapping s ss) E (k ∷ p)) w ≡ asked ρ (state x (fields s ∷ E) p) w
     unfolding asked some_in some eval
     enter-field {s = s} {x = x} {ss = ss} k a (t_struct d ds b) =
-        in_same r (λ σ. some w (k ∷ p) (on_struct (λ vs. evals vs ss) (eval σ s))) (λ σ. in_struct (λ vs. some w p (eval vs x)) (eval σ s)) c
+        in_same r (λ σ. some w (k ∷ p) (on_struct (λ vs. evals vs ss) (eval σ s))) (λ σ. in_struct_lem (λ vs. some w p (eval vs x)) (eval σ s)) c
         (λ σ h. into-field (λ v. some w p v) k a (eval-over d h))
 
     enter-list : {n : Bytes} {t : DataType} {s e : Selector} (k : ℕ) → Typed Δ (list_mapping s e) n t → asked ρ (state (list_mapping s e) E (k ∷ p)) w ≡
@@ -164,7 +165,7 @@ module _ {Γ : Fields} {ρ : Values} (r : FitsAllOver Γ ρ) (w : Want) (p : Lis
       (state s E (k.0 ∷ p)) w
   unfolding asked some_in some eval
   leave-field {s} k (in_fields c d) =
-      in_same r (λ σ. in_struct (λ vs. some w p (value_at vs k.0)) (eval σ s)) (λ σ. some w (k.0 ∷ p) (eval σ s)) c
+      in_same r (λ σ. in_struct_lem (λ vs. some w p (value_at vs k.0)) (eval σ s)) (λ σ. some w (k.0 ∷ p) (eval σ s)) c
       (λ σ h. from_field (λ v. some w p v) k.0 (eval-over d h))
 
   leave-element : {s : Selector} {Δ : Fields} (k : Position) {i : ℕ} → k.0 ≡ 0 → Scoped Γ (element s i ∷ E) Δ

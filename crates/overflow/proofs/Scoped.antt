@@ -14,7 +14,7 @@ use Rattle.plan.specs.code.Fits.{FitsOver, over-null, over-struct, over-list, ov
 use Rattle.plan.proofs.Typed.{Typed}
 use Rattle.plan.proofs.Preserve.{eval-over, only}
 use Rattle.walk.specs.code.State.{Frame, fields, element, State}
-use Rattle.overflow.specs.code.Some.{any_of, some, in_struct, in_elements, some_in, asked}
+use Rattle.overflow.specs.code.Some.{any_of, some, in_struct_lem, in_elements, some_in, asked}
 use Rattle.overflow.specs.declared.want.Want.{Want}
 
 -- `Scoped Γ E Δ`: over the columns Γ, positions inside the entered mappings E take from the columns Δ
@@ -35,9 +35,9 @@ pub record TypedState (Γ : Fields) (x : State) : Type 0 where
 
 -- ---- what is asked is the same where it is of every value that fits
 
-struct-same : {fs : Fields} {v : Value} (f g : Values → Bool) → ((vs : Values) → FitsAllOver fs vs → f vs ≡ g vs) → FitsOver (struct fs) v → in_struct f
-    v ≡ in_struct g v
-unfolding in_struct
+struct-same : {fs : Fields} {v : Value} (f g : Values → Bool) → ((vs : Values) → FitsAllOver fs vs → f vs ≡ g vs) → FitsOver (struct fs) v → in_struct_lem f
+    v ≡ in_struct_lem g v
+unfolding in_struct_lem
 struct-same f g h over-null = refl
 struct-same f g h (over-struct {vs = vs} a) = h vs a
 
@@ -63,14 +63,14 @@ pub in_same : {Γ : Fields} {ρ : Values} → FitsAllOver Γ ρ → {E : List Fr
     → some_in ρ E f ≡ some_in ρ E g
 unfolding some_in
 in_same {ρ = ρ} r f g in_record h = h ρ r
-in_same r f g (in_fields {s = s} c d) h = in_same r (λ σ. in_struct f (eval σ s)) (λ σ. in_struct g (eval σ s)) c (λ σ a. struct-same f g h (eval-over d a))
+in_same r f g (in_fields {s = s} c d) h = in_same r (λ σ. in_struct_lem f (eval σ s)) (λ σ. in_struct_lem g (eval σ s)) c (λ σ a. struct-same f g h (eval-over d a))
 in_same r f g (in_list {s = s} c d) h = in_same r (λ σ. in_elements f (eval σ s)) (λ σ. in_elements g (eval σ s)) c (λ σ a. list_same f g h (eval-over d a))
 in_same r f g (in_array {s = s} c d) h = in_same r (λ σ. in_elements f (eval σ s)) (λ σ. in_elements g (eval σ s)) c (λ σ a. array_same f g h (eval-over d a))
 
 -- ---- what is asked of nothing
 
-struct-none : (v : Value) → in_struct (λ vs. false) v ≡ false
-unfolding in_struct
+struct-none : (v : Value) → in_struct_lem (λ vs. false) v ≡ false
+unfolding in_struct_lem
 struct-none vnull = refl
 struct-none (vnumber k n) = refl
 struct-none (vtext b) = refl

@@ -23,7 +23,7 @@ use Rattle.plan.proofs.Typed.{At, here, there, Typed, t_position, t_cast, t_stru
 use Rattle.plan.proofs.Preserve.{eval-over}
 use Rattle.walk.specs.code.State.{Frame, fields, element, state}
 use Rattle.overflow.specs.code.Want.{Small, bounds_before, time_of, count_beyond, filled, is_beyond, is_struct, is_filled, meets}
-use Rattle.overflow.specs.code.Some.{any_of, some_part, some, in_struct, in_elements, some_in, asked}
+use Rattle.overflow.specs.code.Some.{any_of, some_part, some, in_struct_lem, in_elements, some_in, asked}
 use Rattle.overflow.specs.declared.want.Bounds.{Bounds}
 use Rattle.overflow.specs.declared.want.Timed.TheVariants.{In, Never}
 use Rattle.overflow.specs.declared.want.Want.{Want}
@@ -44,8 +44,8 @@ any_filled_lem vnil = refl
 any_filled_lem (vcons v vs) = refl
 
 -- what is run over a struct's fields is run where there is a struct, over elements where there is one
-struct-run : (v : Value) → in_struct (λ vs. true) v ≡ meets Parts v
-unfolding in_struct meets is_struct
+struct-run : (v : Value) → in_struct_lem (λ vs. true) v ≡ meets Parts v
+unfolding in_struct_lem meets is_struct
 struct-run vnull = refl
 struct-run (vnumber k n) = refl
 struct-run (vtext b) = refl
@@ -156,16 +156,19 @@ array-beyond d u (over-array c a) = refl
 -- only null is both a leaf's and a nested type's
 struct-null : {l : LeafType} {fs : Fields} {v : Value} → FitsOver (leaf l) v → FitsOver (struct fs) v → v ≡ vnull
 struct-null h over-null = refl
+struct-null {l = l} {fs = fs} h (over-struct {vs = vs} _) = elim h [ ]
 
 list-null : {l : LeafType} {t : DataType} {v : Value} → FitsOver (leaf l) v → FitsOver (list t) v → v ≡ vnull
 list-null h over-null = refl
+list-null {l = l} {t = t} h (over-list {vs = vs} _ _) = elim h [ ]
 
 array-null : {l : LeafType} {w : ℕ} {t : DataType} {v : Value} → FitsOver (leaf l) v → FitsOver (array w t) v → v ≡ vnull
 array-null h over-null = refl
+array-null {l = l} {w = w} {t = t} h (over-array {vs = vs} _ _) = elim h [ ]
 
 -- a nested type
 pub data Nested : DataType → Type 0 where
-  a_struct : {fs : Fields} → Nested (struct fs)
+  a_struct_lem : {fs : Fields} → Nested (struct fs)
   a_list_lem : {t : DataType} → Nested (list t)
   an_array_lem : {w : ℕ} {t : DataType} → Nested (array w t)
 
@@ -173,7 +176,7 @@ pub data Nested : DataType → Type 0 where
 cast-null : {u : DataType} {v : Value} → Nested u → (t : DataType) (o : CastOption) → cast_fits_of t u o ≡ true → FitsOver t v → FitsOver u (cast_value u v)
     → cast_value u v ≡ vnull
 unfolding cast_fits_of cast_value
-cast-null a_struct (leaf l) o e h g = struct-null h g
+cast-null a_struct_lem (leaf l) o e h g = struct-null h g
 cast-null a_list_lem (leaf l) o e h g = list-null h g
 cast-null an_array_lem (leaf l) o e h g = array-null h g
 cast-null n (struct fs) o e h g = true≠false e refl
@@ -188,7 +191,7 @@ module _ {Δ : Fields} {n : Bytes} {σ : Values} (h : FitsAllOver Δ σ) (w : Wa
   path-none : {t : DataType} (u : DataType) {s : Selector} {o : CastOption} (k : ℕ) (p : List ℕ) → Typed Δ (cast s u o) n t → some w (k ∷ p)
       (eval σ (cast s u o)) ≡ false
   path-none (leaf l) k p (t_cast d r b) = leaf-path w k p (eval-over (t_cast d r b) h)
-  path-none (struct fs) k p d = nested_none (k ∷ p) a_struct d
+  path-none (struct fs) k p d = nested_none (k ∷ p) a_struct_lem d
   path-none (list t) k p d = nested_none (k ∷ p) a_list_lem d
   path-none (array m t) k p d = nested_none (k ∷ p) an_array_lem d
 

@@ -35,7 +35,7 @@ use Rattle.plan.specs.Convert.{UnitChange, multiply, divide, keep, unit_change, 
 use Rattle.plan.specs.Run.{value_at, cast_leaf, cast_value, map_values, on_struct, on_list, on_array, eval, evals, clean, clean_all_of}
 use Rattle.plan.specs.code.Fits.{FitsOver, over-null, over-number, over-text, over-datetime, over-struct, over-list, over-array, FitsAllOver}
 use Rattle.plan.specs.code.Fits.{FitsEachOver, over_none, over-more}
-use Rattle.plan.specs.Reach.{Scope, top, in_struct, in_element_lem, parts, values_in, value_in, SelectorAt, s_here, s_there, Beyond, Overflows, o_cast, o_further}
+use Rattle.plan.specs.Reach.{Scope, top, in_struct_lem, in_element, parts, values_in, value_in, SelectorAt, s_here, s_there, Beyond, Overflows, o_cast, o_further}
 use Rattle.plan.specs.Reach.{o_rename, o_struct, o_list, o_array, o_field, o_element, ReachesOverflow}
 use Rattle.plan.proofs.Results.{true≠false}
 use Rattle.plan.proofs.Typed.{Typed, t_position, t_constant, t_cast, t_rename, t_struct, t_list, t_array, TypedAll, t_nil, t_cons}
@@ -49,7 +49,7 @@ use Rattle.plan.proofs.Reading.{map_at}
 mutual
   data OverAt : Value → List ℕ → Type 0 where
     itself : OverAt voverflow []
-    in_struct_lem : {vs : Values} {k : ℕ} {p : List ℕ} → OverIn vs k p → OverAt (vstruct vs) (k ∷ p)
+    in_struct : {vs : Values} {k : ℕ} {p : List ℕ} → OverIn vs k p → OverAt (vstruct vs) (k ∷ p)
     in_list : {vs : Values} {k : ℕ} {p : List ℕ} → OverIn vs k p → OverAt (vlist vs) (k ∷ p)
     in_array : {vs : Values} {k : ℕ} {p : List ℕ} → OverIn vs k p → OverAt (varray vs) (k ∷ p)
 
@@ -79,7 +79,7 @@ mutual
   unclean (vnumber k n) e = clash (cc)
   unclean (vtext b) e = clash (cc)
   unclean voverflow e = record { path = []; over = itself }
-  unclean (vstruct vs) e = let x = unclean_all vs e in record { path = x.index ∷ x.path; over = in_struct_lem x.over }
+  unclean (vstruct vs) e = let x = unclean_all vs e in record { path = x.index ∷ x.path; over = in_struct x.over }
   unclean (vlist vs) e = let x = unclean_all vs e in record { path = x.index ∷ x.path; over = in_list x.over }
   unclean (varray vs) e = let x = unclean_all vs e in record { path = x.index ∷ x.path; over = in_array x.over }
 
@@ -101,7 +101,7 @@ mutual
 
   over_unclean : {v : Value} {p : List ℕ} → OverAt v p → clean v ≡ false
   over_unclean itself = refl
-  over_unclean (in_struct_lem x) = over_unclean_all x
+  over_unclean (in_struct x) = over_unclean_all x
   over_unclean (in_list x) = over_unclean_all x
   over_unclean (in_array x) = over_unclean_all x
 
@@ -139,13 +139,13 @@ of_parts vnull x = none_in x
 of_parts (vnumber i n) x = none_in x
 of_parts (vtext b) x = none_in x
 of_parts voverflow x = none_in x
-of_parts (vstruct vs) x = in_struct_lem x
+of_parts (vstruct vs) x = in_struct x
 of_parts (vlist vs) x = in_list x
 of_parts (varray vs) x = in_array x
 
 in_parts : {v : Value} {k : ℕ} {p : List ℕ} → OverAt v (k ∷ p) → OverIn (parts v) k p
 unfolding parts
-in_parts (in_struct_lem x) = x
+in_parts (in_struct x) = x
 in_parts (in_list x) = x
 in_parts (in_array x) = x
 
@@ -154,7 +154,7 @@ in_parts (in_array x) = x
 cast-keeps : (t : DataType) {v : Value} {p : List ℕ} → OverAt v p → OverAt (cast_value t v) p
 unfolding cast_value cast_leaf
 cast-keeps (leaf l) itself = itself
-cast-keeps (leaf l) (in_struct_lem x) = in_struct_lem x
+cast-keeps (leaf l) (in_struct x) = in_struct x
 cast-keeps (leaf l) (in_list x) = in_list x
 cast-keeps (leaf l) (in_array x) = in_array x
 cast-keeps (struct fs) x = x
@@ -178,7 +178,7 @@ struct_in : (f : Values → Values) {v : Value} {vs : Values} {k : ℕ} {p : Lis
 unfolding on_struct parts
 struct_in f {v} {vs} {k} {p} e o =
     let x : OverIn (f vs) k p = rw e at o in
-    rw e (in_struct_lem x)
+    rw e (in_struct x)
 
 list_in : (f : Value → Value) {v : Value} {vs : Values} (j : ℕ) {p : List ℕ} → v ≡ vlist vs → j < count_values vs → OverAt (f (value_at (parts v) j)) p →
     OverAt (on_list f v) (j ∷ p)
@@ -304,7 +304,7 @@ struct_source f over-null a = never refl a
 struct_source {fs} f (over-struct {vs = vs} h) a = go a
   where
     go : {p : List ℕ} → OverAt (vstruct (f vs)) p → StructSource fs f (vstruct vs) p
-    go (in_struct_lem o) = record { values = vs; index = _; path = _; is = refl; splits = refl; over = o; fits = h }
+    go (in_struct o) = record { values = vs; index = _; path = _; is = refl; splits = refl; over = o; fits = h }
 
 each_at : {t : DataType} {vs : Values} → FitsEachOver t vs → (j : ℕ) → FitsOver t (value_at vs j)
 unfolding value_at
@@ -376,11 +376,11 @@ module _ (ρ : Values) where
   Traced E s = (p : List ℕ) → OverAt (value_in ρ E s) p → Overflows ρ E s p
 
   -- inside a mapping whose input is traced
-  field-sourced : (E : Scope) (s : Selector) → Traced E s → Sourced (in_struct E s)
+  field-sourced : (E : Scope) (s : Selector) → Traced E s → Sourced (in_struct_lem E s)
   unfolding values_in value_in
   field-sourced E s f k p o = o_field (f (k.0 ∷ p) (of_parts (value_in ρ E s) (at_in (parts (value_in ρ E s)) k.0 o)))
 
-  element-sourced : (E : Scope) (s : Selector) (j : ℕ) → Traced E s → Sourced (in_element_lem E s j)
+  element-sourced : (E : Scope) (s : Selector) (j : ℕ) → Traced E s → Sourced (in_element E s j)
   unfolding values_in value_in
   element-sourced E s j f k p o =
       let (z, x) = single_at k.0 o in
@@ -392,11 +392,11 @@ module _ (ρ : Values) where
   cast-traced f (made e q b) = o_cast e q b
 
   -- a mapping's parts, at the values that it was found to have
-  parts_are : (E : Scope) (s : Selector) {x : Value} → value_in ρ E s ≡ x → values_in ρ (in_struct E s) ≡ parts x
+  parts_are : (E : Scope) (s : Selector) {x : Value} → value_in ρ E s ≡ x → values_in ρ (in_struct_lem E s) ≡ parts x
   unfolding values_in value_in
   parts_are E s e = ap parts e
 
-  element-is : (E : Scope) (s : Selector) (j : ℕ) {x : Value} → value_in ρ E s ≡ x → values_in ρ (in_element_lem E s j) ≡ vcons (value_at (parts x) j) vnil
+  element-is : (E : Scope) (s : Selector) (j : ℕ) {x : Value} → value_in ρ E s ≡ x → values_in ρ (in_element E s j) ≡ vcons (value_at (parts x) j) vnil
   unfolding values_in value_in
   element-is E s j e = ap (λ (x : Value). vcons (value_at (parts x) j) vnil) e
 
@@ -411,19 +411,19 @@ module _ (ρ : Values) where
     over-reached (t_struct {s = s} {ss = ss} d ds b) E h f p o =
         let S = struct_source (λ vs. evals vs ss) (eval-over d h) o in
         let q = parts_are E s S.is in
-        let X = overs-reached ds (in_struct E s) (rw q S.fits) (field-sourced E s (over-reached d E h f)) S.index S.path (rw q S.over) in
+        let X = overs-reached ds (in_struct_lem E s) (rw q S.fits) (field-sourced E s (over-reached d E h f)) S.index S.path (rw q S.over) in
         rw S.splits (o_struct S.is X.selects X.overflows)
     over-reached (t_list {s = s} {e = e} d x b) E h f p o =
         let S = list_source (λ v. eval (vcons v vnil) e) (eval-over d h) o in
         let T = S.each in
         let q = element-is E s T.index T.is in
-        rw T.splits (o_list T.is T.below (over-reached x (in_element_lem E s T.index) (rw q (only T.fits))
+        rw T.splits (o_list T.is T.below (over-reached x (in_element E s T.index) (rw q (only T.fits))
         (element-sourced E s T.index (over-reached d E h f)) T.path (rw q T.over)))
     over-reached (t_array {s = s} {e = e} d x b) E h f p o =
         let S = array_source (λ v. eval (vcons v vnil) e) (eval-over d h) o in
         let T = S.each in
         let q = element-is E s T.index T.is in
-        rw T.splits (o_array T.is T.below (over-reached x (in_element_lem E s T.index) (rw q (only T.fits))
+        rw T.splits (o_array T.is T.below (over-reached x (in_element E s T.index) (rw q (only T.fits))
         (element-sourced E s T.index (over-reached d E h f)) T.path (rw q T.over)))
 
     overs-reached : {Γ : Fields} {ss : Selectors} {gs : Fields} → TypedAll Γ ss gs → (E : Scope) → FitsAllOver Γ (values_in ρ E) → Sourced E

@@ -10,7 +10,7 @@ use Rattle.rules.specs.declared.outcome.CastOption.{CastOption}
 use Rattle.values.specs.Value.{Value, vstruct, vlist, varray, Values, vnil, vcons, count_values}
 use Rattle.plan.specs.Selector.{Selector, position, constant, cast, rename, struct_mapping, list_mapping, array_mapping, Selectors}
 use Rattle.plan.specs.Run.{value_at, cast_value, map_values, on_struct, on_list, on_array, eval, evals}
-use Rattle.plan.specs.Reach.{Scope, top, in_struct, in_element_lem, parts, values_in, value_in, SelectorAt, s_here, s_there}
+use Rattle.plan.specs.Reach.{Scope, top, in_struct_lem, in_element, parts, values_in, value_in, SelectorAt, s_here, s_there}
 
 pub evals-at : (ρ : Values) {ss : Selectors} {k : ℕ} {x : Selector} → SelectorAt ss k x → value_at (evals ρ ss) k ≡ eval ρ x
 unfolding value_at evals
@@ -29,11 +29,11 @@ module _ (ρ : Values) where
   unfolding value_in eval values_in
   position-top k = refl
 
-  pub position-field : (E : Scope) (s : Selector) (k : Position) → value_in ρ (in_struct E s) (position k) ≡ value_at (parts (value_in ρ E s)) k.0
+  pub position-field : (E : Scope) (s : Selector) (k : Position) → value_in ρ (in_struct_lem E s) (position k) ≡ value_at (parts (value_in ρ E s)) k.0
   unfolding value_in eval values_in
   position-field E s k = refl
 
-  pub position-element : (E : Scope) (s : Selector) (j : ℕ) (k : Position) → k.0 ≡ 0 → value_in ρ (in_element_lem E s j) (position k) ≡ value_at
+  pub position-element : (E : Scope) (s : Selector) (j : ℕ) (k : Position) → k.0 ≡ 0 → value_in ρ (in_element E s j) (position k) ≡ value_at
       (parts (value_in ρ E s)) j
   unfolding value_in eval values_in value_at
   position-element E s j k e = rw e
@@ -52,17 +52,17 @@ module _ (ρ : Values) where
 
   -- a struct mapping over a struct: its k-th field is the k-th selector, over the fields
   pub struct-field : (E : Scope) (s : Selector) {ss : Selectors} {k : ℕ} {x : Selector} {vs : Values} → value_in ρ E s ≡ vstruct vs → SelectorAt ss k x
-      → value_at (parts (value_in ρ E (struct_mapping s ss))) k ≡ value_in ρ (in_struct E s) x
+      → value_at (parts (value_in ρ E (struct_mapping s ss))) k ≡ value_in ρ (in_struct_lem E s) x
   unfolding value_in eval values_in on_struct parts
   struct-field E s {vs = vs} e a = rw e (evals-at vs a)
 
   -- a list or array mapping over elements: its j-th element is the selector, over that element
   pub list_element_lem : (E : Scope) (s e : Selector) (j : ℕ) {vs : Values} → value_in ρ E s ≡ vlist vs → j < count_values vs
-      → value_at (parts (value_in ρ E (list_mapping s e))) j ≡ value_in ρ (in_element_lem E s j) e
+      → value_at (parts (value_in ρ E (list_mapping s e))) j ≡ value_in ρ (in_element E s j) e
   unfolding value_in eval values_in on_list parts
   list_element_lem E s e j {vs} p h = rw p (map_at (λ v. eval (vcons v vnil) e) vs j h)
 
   pub array_element_lem : (E : Scope) (s e : Selector) (j : ℕ) {vs : Values} → value_in ρ E s ≡ varray vs → j < count_values vs
-      → value_at (parts (value_in ρ E (array_mapping s e))) j ≡ value_in ρ (in_element_lem E s j) e
+      → value_at (parts (value_in ρ E (array_mapping s e))) j ≡ value_in ρ (in_element E s j) e
   unfolding value_in eval values_in on_array parts
   array_element_lem E s e j {vs} p h = rw p (map_at (λ v. eval (vcons v vnil) e) vs j h)

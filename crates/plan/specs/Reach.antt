@@ -20,8 +20,8 @@ use Rattle.plan.specs.Run.{value_at, eval}
 -- list or array that s gives there.
 pub data Scope : Type 0 where
   top : Scope
-  in_struct : Scope → Selector → Scope
-  in_element_lem : Scope → Selector → ℕ → Scope
+  in_struct_lem : Scope → Selector → Scope
+  in_element : Scope → Selector → ℕ → Scope
 
 -- the fields or elements of a value
 unfoldable pub parts : Value → Values
@@ -36,8 +36,8 @@ parts (varray vs) = vs
 -- the values that a selector is run over, from a record's
 unfoldable pub values_in : Values → Scope → Values
 values_in ρ top = ρ
-values_in ρ (in_struct E s) = parts (eval (values_in ρ E) s)
-values_in ρ (in_element_lem E s j) = vcons (value_at (parts (eval (values_in ρ E) s)) j) vnil
+values_in ρ (in_struct_lem E s) = parts (eval (values_in ρ E) s)
+values_in ρ (in_element E s j) = vcons (value_at (parts (eval (values_in ρ E) s)) j) vnil
 
 -- what a selector gives where it is run
 unfoldable pub value_in : Values → Scope → Selector → Value
@@ -64,15 +64,15 @@ pub data Overflows (ρ : Values) : Scope → Selector → List ℕ → Type 0 wh
   o_rename : {E : Scope} {s : Selector} {n : Bytes} {p : List ℕ} → Overflows ρ E s p → Overflows ρ E (rename s n) p
   -- in a field or an element that a mapping of a present input makes
   o_struct : {E : Scope} {s x : Selector} {ss : Selectors} {vs : Values} {k : ℕ} {p : List ℕ} → value_in ρ E s ≡ vstruct vs → SelectorAt ss k x →
-      Overflows ρ (in_struct E s) x p
+      Overflows ρ (in_struct_lem E s) x p
       → Overflows ρ E (struct_mapping s ss) (k ∷ p)
-  o_list : {E : Scope} {s e : Selector} {vs : Values} {j : ℕ} {p : List ℕ} → value_in ρ E s ≡ vlist vs → j < count_values vs → Overflows ρ (in_element_lem E s j) e p
+  o_list : {E : Scope} {s e : Selector} {vs : Values} {j : ℕ} {p : List ℕ} → value_in ρ E s ≡ vlist vs → j < count_values vs → Overflows ρ (in_element E s j) e p
       → Overflows ρ E (list_mapping s e) (j ∷ p)
-  o_array : {E : Scope} {s e : Selector} {vs : Values} {j : ℕ} {p : List ℕ} → value_in ρ E s ≡ varray vs → j < count_values vs → Overflows ρ (in_element_lem E s j) e p
+  o_array : {E : Scope} {s e : Selector} {vs : Values} {j : ℕ} {p : List ℕ} → value_in ρ E s ≡ varray vs → j < count_values vs → Overflows ρ (in_element E s j) e p
       → Overflows ρ E (array_mapping s e) (j ∷ p)
   -- in a field or an element of the input that a mapping's selector takes
-  o_field : {E : Scope} {s : Selector} {k : Position} {p : List ℕ} → Overflows ρ E s (k.0 ∷ p) → Overflows ρ (in_struct E s) (position k) p
-  o_element : {E : Scope} {s : Selector} {j : ℕ} {k : Position} {p : List ℕ} → k.0 ≡ 0 → Overflows ρ E s (j ∷ p) → Overflows ρ (in_element_lem E s j) (position k) p
+  o_field : {E : Scope} {s : Selector} {k : Position} {p : List ℕ} → Overflows ρ E s (k.0 ∷ p) → Overflows ρ (in_struct_lem E s) (position k) p
+  o_element : {E : Scope} {s : Selector} {j : ℕ} {k : Position} {p : List ℕ} → k.0 ≡ 0 → Overflows ρ E s (j ∷ p) → Overflows ρ (in_element E s j) (position k) p
 
 -- a strict cast that the run of a plan reaches does so
 pub record ReachesOverflow (ρ : Values) (ss : Selectors) : Type 0 where

@@ -1,5 +1,5 @@
-// The C interface of the column selector: include/selector.h says what a caller must know. Each call is total, answers
-// a number of 64 bits and rests on the crates below.
+// The calls of the column selector: include/selector.h says what a caller must know. Each call is total, answers a
+// number of 64 bits and rests on the crates below. `selector_c` exports them to C.
 #![tactic(auto)]
 
 ghost use Rattle.std.specs.Prelude.{◌≡◌, ◌<◌, length};
@@ -51,8 +51,7 @@ fn refusal(number: u8, place: u32) -> u64
     (number as u64) * 0x1_0000_0000
 }
 
-#[unsafe(no_mangle)]
-pub extern "C" fn selector_read_layout(bytes: &[u8]) -> u64
+pub fn selector_read_layout(bytes: &[u8]) -> u64
     ensures { result ≡ read_answer (layout bytes.now) }
 {
     match read_layout(bytes) {
@@ -74,21 +73,14 @@ fn written(res: WriteResult) -> u64
     }
 }
 
-#[unsafe(no_mangle)]
-pub extern "C" fn selector_build_by_name(
-    policy: u32,
-    incoming: &[u8],
-    target: &[u8],
-    plan: &mut [u8],
-) -> u64
+pub fn selector_build_by_name(policy: u32, incoming: &[u8], target: &[u8], plan: &mut [u8]) -> u64
     ensures value { result ≡ written_answer (build_by_name (policy_of policy) incoming.now target.now (length plan.old)) }
     ensures plan_after { plan.new ≡ buffer_after (build_by_name (policy_of policy) incoming.now target.now (length plan.old)) plan.old }
 {
     written(build_by_name(Policy::from_word(policy), incoming, target, plan))
 }
 
-#[unsafe(no_mangle)]
-pub extern "C" fn selector_build_by_number(
+pub fn selector_build_by_number(
     policy: u32,
     source_index: u32,
     owner: u16,
@@ -120,15 +112,13 @@ fn checked(check: PlanChecked) -> u64
     }
 }
 
-#[unsafe(no_mangle)]
-pub extern "C" fn selector_check_plan(incoming: &[u8], target: &[u8], plan: &[u8]) -> u64
+pub fn selector_check_plan(incoming: &[u8], target: &[u8], plan: &[u8]) -> u64
     ensures { result ≡ checked_answer (check_plan_of incoming.now target.now plan.now) }
 {
     checked(check_plan(incoming, target, plan))
 }
 
-#[unsafe(no_mangle)]
-pub extern "C" fn selector_run(
+pub fn selector_run(
     incoming: &[u8],
     target: &[u8],
     plan: &[u8],

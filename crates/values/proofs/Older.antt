@@ -7,7 +7,7 @@ use mathlib.Core.List.{List, [], ◌∷◌, ◌++◌}
 use Rattle.layout.specs.Bytes.{Bytes}
 use Rattle.layout.specs.Parser.{Res, ok, Parser}
 use Rattle.layout.specs.Tree.{Label, ColumnType, cleaf, cstruct, clist, carray, Columns, cnil, ccons, fields_of, Layout}
-use Rattle.layout.specs.Layout.{Head, a_leaf, a_struct_lem, a_list, an_array, field_mark, label_rest, label, element_label, columns, struct_type, list_type, array_type, body}
+use Rattle.layout.specs.Layout.{Head, a_leaf, a_struct, a_list, an_array, field_mark, label_rest, label, element_label, columns, struct_type, list_type, array_type, body}
 use Rattle.layout.specs.Layout.{type, top_rule, inner_rule, deepest, counted, layout_from, layout}
 use Rattle.layout.specs.code.Stands.{ColumnsAt}
 use Rattle.layout.specs.declared.columns.Siblings.{Siblings}
@@ -67,7 +67,7 @@ module _ (v : Edition) (older : v ≡ Three → ⊥) (s : Bytes) where
         → (k : Head) (at : ℕ) {t : ColumnType} {m : ℕ} → body v r p k s at ≡ ok t m → Unmarked required_of t
     unfolding body struct_type list_type array_type
     body-bare p f (a_leaf l) at e = as_read (Unmarked required_of) e bare-leaf
-    body-bare p f (a_struct_lem n) at e = let (cs, i, a, e) = next-ok _ _ e in as_read (Unmarked required_of) e (bare_struct (columns-bare p f n [] at a))
+    body-bare p f (a_struct n) at e = let (cs, i, a, e) = next-ok _ _ e in as_read (Unmarked required_of) e (bare_struct (columns-bare p f n [] at a))
     body-bare p f a_list at e =
         let (l, i, a, e) = next-ok _ _ e in
         let (t, j, b, e) = next-ok _ _ e in

@@ -12,7 +12,7 @@ use Rattle.plan.specs.Selector.{Selector, position, constant, cast, rename, stru
 use Rattle.plan.specs.Read.{selector, selectors as selectorsOf, deepest_selector}
 use Rattle.walk.specs.code.Stands.{SelectorAt, SelectorsAt}
 use Rattle.walk.specs.code.State.{Frame, State, state}
-use Rattle.walk.specs.code.Moves.{Part, p_field, Mapping, is_struct_lem}
+use Rattle.walk.specs.code.Moves.{Part, p_field, Mapping, is_struct_mapping}
 use Rattle.walk.specs.code.Parts.{CountedAt, CountedIs, NthIs, StructAt}
 use Rattle.walk.specs.code.Walks.{WalkAt, PartAt, StepsTo}
 use Rattle.walk.specs.code.Children.{PartStands, PassedTo, Reached}
@@ -139,7 +139,7 @@ module _ {plan : Bytes} {at : ℕ} where
       reached-next c f = record {
         fields = record {
           passed = λ P i S.
-              let M : Mapping P.tree = subst Mapping (sym S.is) is_struct_lem in
+              let M : Mapping P.tree = subst Mapping (sym S.is) is_struct_mapping in
               (passed-more P S.is R.fields (part-below S.is (T.stands P M).part) f).passed P i S;
         };
         element = λ n I. absurd (n c);

@@ -91,11 +91,11 @@ module _ {s : Bytes} {at : ℕ} {P : SelectorAt s at} {r : SelectorHead} (H : He
   pub is-rename : {c : Cursor} → r ≡ SelectorHead.Rename c → RenameAt s at P c.at
   is-rename e = opened e
 
-  pub is_struct_lem : {c : Cursor} → r ≡ SelectorHead.Struct c → StructAt s at P c.at
-  is_struct_lem e = opened e
+  pub is_struct_mapping : {c : Cursor} → r ≡ SelectorHead.Struct c → StructAt s at P c.at
+  is_struct_mapping e = opened e
 
-  pub is_list_lem : {c : Cursor} → r ≡ SelectorHead.List c → ListAt s at P c.at
-  is_list_lem e = opened e
+  pub is_list_mapping : {c : Cursor} → r ≡ SelectorHead.List c → ListAt s at P c.at
+  is_list_mapping e = opened e
 
   pub is-array : {c : Cursor} → r ≡ SelectorHead.Array c → ArrayAt s at P c.at
   is-array e = opened e

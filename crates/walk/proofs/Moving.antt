@@ -15,7 +15,7 @@ use Rattle.plan.specs.Selector.{Selector, position, constant, cast, rename, stru
 use Rattle.walk.specs.code.Stands.{SelectorAt, SelectorsAt}
 use Rattle.walk.specs.code.Parts.{ConstantAt, CastAt, RenameAt, StructAt, ListAt, ArrayAt, CountedIs, NthIs}
 use Rattle.walk.specs.code.State.{Frame, fields, element, State, state}
-use Rattle.walk.specs.code.Moves.{Moves, m_here, Input, i_rename, Part, p_field, p_list, p_array, Mapping, is_struct_lem, is_list_lem, is-array, NoPart, n_field}
+use Rattle.walk.specs.code.Moves.{Moves, m_here, Input, i_rename, Part, p_field, p_list, p_array, Mapping, is_struct_mapping, is_list_mapping, is-array, NoPart, n_field}
 use Rattle.walk.specs.code.Moves.{t_field, t_element}
 use Rattle.walk.specs.code.Walks.{Entered, e_fields, e_list, e_array, WalkAt, rank, Located, PartAt, PartAnswer, PartIs, StepsTo, Enters, Leaves}
 use Rattle.walk.specs.code.Walks.{MoveAnswer, MoveIs}
@@ -43,8 +43,8 @@ maps (array_mapping s e) = true
 
 maps_mapping : {y : Selector} → Mapping y → maps y ≡ true
 unfolding maps
-maps_mapping is_struct_lem = refl
-maps_mapping is_list_lem = refl
+maps_mapping is_struct_mapping = refl
+maps_mapping is_list_mapping = refl
 maps_mapping is-array = refl
 
 pub unmapped : {B : Type 0} {y z : Selector} → y ≡ z → maps z ≡ false → Mapping y → B

@@ -14,7 +14,7 @@ use Rattle.walk.specs.code.Stands.{SelectorAt}
 use Rattle.walk.specs.code.State.{Frame, element, State, state}
 use Rattle.walk.specs.code.Moves.{Moves, m_rename, m_field, m_list, m_array, m_leave, m_leave-element, Stopped, s_column, s_constant, s_cast, s_rename}
 use Rattle.walk.specs.code.Moves.{s_struct, s_list, s_array, s_no_element, s_no_field, Input, i_cast, i_rename, i_struct, i_list, i_array, Part, p_field}
-use Rattle.walk.specs.code.Moves.{p_list, p_array, Mapping, is_struct_lem, is_list_lem, is-array, NoPart, n_field, Takes, t_field, t_element}
+use Rattle.walk.specs.code.Moves.{p_list, p_array, Mapping, is_struct_mapping, is_list_mapping, is-array, NoPart, n_field, Takes, t_field, t_element}
 use Rattle.walk.proofs.View.{Viewed, v_position, v_constant, v_cast, v_rename, v_struct, v_list, v_array, view, nth-same, nth-below}
 
 -- ---- a state by its parts
@@ -43,8 +43,8 @@ module _ {x : State} where
   stop_mapping m b = go x.selector refl m
     where
       go : (y : Selector) → x.selector ≡ y → Mapping y → Stopped x
-      go y a is_struct_lem = subst Stopped (state-is x a refl b) s_struct
-      go y a is_list_lem = subst Stopped (state-is x a refl b) s_list
+      go y a is_struct_mapping = subst Stopped (state-is x a refl b) s_struct
+      go y a is_list_mapping = subst Stopped (state-is x a refl b) s_list
       go y a is-array = subst Stopped (state-is x a refl b) s_array
 
   pub stop_no_part : {k : ℕ} {p : List ℕ} → NoPart x.selector k → x.path ≡ k ∷ p → Stopped x
@@ -79,8 +79,8 @@ module _ {x : State} where
 -- ---- inputs and parts
 
 pub part-mapping : {y : Selector} {k : ℕ} {f : Frame} {t : Selector} → Part y k f t → Mapping y
-part-mapping (p_field n) = is_struct_lem
-part-mapping p_list = is_list_lem
+part-mapping (p_field n) = is_struct_mapping
+part-mapping p_list = is_list_mapping
 part-mapping p_array = is-array
 
 pub part_same : {y : Selector} {k : ℕ} {f g : Frame} {t u : Selector} → Part y k f t → Part y k g u → (f ≡ g) × (t ≡ u)

@@ -190,7 +190,7 @@ DefaultsAt table dv = TableAt table dv
 abbrev pub defaults_at : {table : Bytes} (dv : DefaultFieldValues) → DefaultsAt table dv → Defaults
 defaults_at dv T = get_default_value T.entries dv.source_index
 
--- ---- the parts of `attachTransforms` that have functions of their own
+-- ---- the parts of `attach_transforms` that have functions of their own
 
 -- with a rename outside, where the labels ask for one; 55 before the types
 abbrev pub attach_renamed : Matching → Policy → Defaults → Label → ColumnType → Position → Label → ColumnType → Result Selector

@@ -2,7 +2,7 @@
 use Rattle.std.specs.Prelude.{ℕ, ◌<◌, ◌≤◌, ◌≡◌, List, []}
 use Rattle.layout.specs.Bytes.{Bytes}
 use Rattle.layout.specs.Tree.{DataType, leaf, struct, list, array, Fields, fnil, fields_of}
-use Rattle.layout.specs.Layout.{deepest, Head, a_leaf, a_struct_lem, a_list, an_array}
+use Rattle.layout.specs.Layout.{deepest, Head, a_leaf, a_struct, a_list, an_array}
 use Rattle.layout.specs.code.Stands.{ColumnsAt}
 use Rattle.layout.specs.code.Answers.{span_at, SpanIn, leaf_at}
 use Rattle.layout.specs.declared.columns.Position.{Position}
@@ -32,7 +32,7 @@ use Rattle.checker.specs.declared.name.PartName.{PartName}
 -- what an answer for a type's head stands for
 abbrev pub head_kind : Bytes → Bytes → TypeHead → Head
 head_kind incoming plan (TypeHead.Leaf p l) = a_leaf (leaf_at (bytes_of incoming plan p) l)
-head_kind incoming plan (TypeHead.Struct n) = a_struct_lem n
+head_kind incoming plan (TypeHead.Struct n) = a_struct n
 head_kind incoming plan TypeHead.List = a_list
 head_kind incoming plan (TypeHead.Array w) = an_array w
 

@@ -3,7 +3,7 @@ use Rattle.std.specs.Prelude.{ℕ, ◌+◌, ◌≤◌, List, Bool, length, take,
 use Rattle.layout.specs.Bytes.{Bytes}
 use Rattle.layout.specs.Parser.{Res, refuse, ok}
 use Rattle.layout.specs.Tree.{LeafType, leaf_type, Label, Layout, count_columns}
-use Rattle.layout.specs.Layout.{Head, a_leaf, a_struct_lem, a_list, an_array}
+use Rattle.layout.specs.Layout.{Head, a_leaf, a_struct, a_list, an_array}
 use Rattle.layout.specs.declared.bytes.Span.{Span}
 use Rattle.layout.specs.declared.cursor.Cursor.{Cursor}
 use Rattle.layout.specs.declared.cursor.Step.{Step}
@@ -65,7 +65,7 @@ leaf_at s l = leaf_type l.leaf (span_at s l.zone)
 
 abbrev pub head_res : Bytes → HeadSpan → Res Head
 head_res s (HeadSpan.Leaf l c) = ok (a_leaf (leaf_at s l)) c.at
-head_res s (HeadSpan.Struct n c) = ok (a_struct_lem n) c.at
+head_res s (HeadSpan.Struct n c) = ok (a_struct n) c.at
 head_res s (HeadSpan.List c) = ok a_list c.at
 head_res s (HeadSpan.Array w c) = ok (an_array w) c.at
 head_res s (HeadSpan.Refused n) = refuse n

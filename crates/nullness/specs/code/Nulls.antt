@@ -4,7 +4,7 @@ use Rattle.layout.specs.Bytes.{Bytes}
 use Rattle.layout.specs.Limits.{longest_plan}
 use Rattle.layout.specs.Parser.{ok}
 use Rattle.layout.specs.Tree.{Label, Columns}
-use Rattle.layout.specs.Layout.{a_struct_lem, a_list, an_array, kind, label as label_of, element_label, columns, type, deepest}
+use Rattle.layout.specs.Layout.{a_struct, a_list, an_array, kind, label as label_of, element_label, columns, type, deepest}
 use Rattle.layout.specs.declared.columns.Siblings.TheVariants.{Free}
 use Rattle.layout.specs.declared.edition.Edition.TheVariants.{One}
 use Rattle.values.specs.Value.{Value, Values}
@@ -30,7 +30,7 @@ pub record ElementStart (s : Bytes) (at to : ℕ) : Type 0 where
 
 -- of the field k or of the elements, whose number has no say, of the type at `at`
 pub data PartStart (s : Bytes) (at k to : ℕ) : Type 0 where
-  p_field : {n m : ℕ} → kind s at ≡ ok (a_struct_lem n) m → k < n → FieldStart s m k to → PartStart s at k to
+  p_field : {n m : ℕ} → kind s at ≡ ok (a_struct n) m → k < n → FieldStart s m k to → PartStart s at k to
   p_list : {m : ℕ} → kind s at ≡ ok a_list m → ElementStart s m to → PartStart s at k to
   p_array : {w m : ℕ} → kind s at ≡ ok (an_array w) m → ElementStart s m to → PartStart s at k to
 

@@ -1,5 +1,5 @@
 -- What is to be asked where a walk stops, and of what. It is right where the selectors passed the check
--- (proofs/Meaning.antt, `stop-means`).
+-- (proofs/Meaning.antt, `stop_means`).
 use Rattle.std.specs.Prelude.{ℕ, ◌≡◌, Bool, true, false, List, [], ◌∷◌}
 use Rattle.layout.specs.Bytes.{Bytes}
 use Rattle.layout.specs.Tree.{leaf_of, DataType, leaf, struct, list, array, Fields, dtype_of}

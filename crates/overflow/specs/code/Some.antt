@@ -51,14 +51,14 @@ abbrev pub SmallSearch : Search → Type 0
 SmallSearch s = (s.from ≤ s.len) × (s.len ≤ length s.path) × SmallSought s.sought
 
 -- f of the fields of a struct
-unfoldable pub in_struct : (Values → Bool) → Value → Bool
-in_struct f vnull = false
-in_struct f (vnumber k n) = false
-in_struct f (vtext b) = false
-in_struct f voverflow = false
-in_struct f (vstruct vs) = f vs
-in_struct f (vlist vs) = false
-in_struct f (varray vs) = false
+unfoldable pub in_struct_lem : (Values → Bool) → Value → Bool
+in_struct_lem f vnull = false
+in_struct_lem f (vnumber k n) = false
+in_struct_lem f (vtext b) = false
+in_struct_lem f voverflow = false
+in_struct_lem f (vstruct vs) = f vs
+in_struct_lem f (vlist vs) = false
+in_struct_lem f (varray vs) = false
 
 -- f of an element alone, any of a list or an array
 unfoldable pub in_elements : (Values → Bool) → Value → Bool
@@ -73,7 +73,7 @@ in_elements f (varray vs) = any_of (λ v. f (vcons v vnil)) vs
 -- f of the values that positions take inside the entered mappings, any of them: over a record's values ρ
 unfoldable pub some_in : Values → List Frame → (Values → Bool) → Bool
 some_in ρ [] f = f ρ
-some_in ρ (fields s ∷ E) f = some_in ρ E (λ σ. in_struct f (eval σ s))
+some_in ρ (fields s ∷ E) f = some_in ρ E (λ σ. in_struct_lem f (eval σ s))
 some_in ρ (element s i ∷ E) f = some_in ρ E (λ σ. in_elements f (eval σ s))
 
 -- whether a node where a walk stands is such

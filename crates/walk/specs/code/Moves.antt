@@ -53,8 +53,8 @@ pub data Part : Selector → ℕ → Frame → Selector → Type 0 where
 
 -- a mapping; and one that has no part k
 pub data Mapping : Selector → Type 0 where
-  is_struct_lem : {s : Selector} {ss : Selectors} → Mapping (struct_mapping s ss)
-  is_list_lem : {s e : Selector} → Mapping (list_mapping s e)
+  is_struct_mapping : {s : Selector} {ss : Selectors} → Mapping (struct_mapping s ss)
+  is_list_mapping : {s e : Selector} → Mapping (list_mapping s e)
   is-array : {s e : Selector} → Mapping (array_mapping s e)
 
 pub data NoPart : Selector → ℕ → Type 0 where

@@ -1,0 +1,7 @@
+-- `builder::answer::failed` meets its contract. Assumes nothing.
+use borrow.Author.Rules.{rules}
+use Rattle.builder.proofs.answer.failed.Goals as goal
+
+pub returns-in-Refused : goal.returns-in-Refused
+returns-in-Refused c =
+    rw c.in-Refused.is

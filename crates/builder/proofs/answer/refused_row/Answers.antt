@@ -1,0 +1,7 @@
+-- `builder::answer::refused_row` meets its contract. Assumes nothing.
+use borrow.Author.Rules.{rules}
+use Rattle.builder.proofs.answer.refused_row.Goals as goal
+
+pub returns-in-Failed : goal.returns-in-Failed
+returns-in-Failed c =
+    rw c.in-Failed.is

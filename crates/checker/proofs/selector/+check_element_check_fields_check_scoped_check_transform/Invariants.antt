@@ -1,0 +1,29 @@
+use Prim.Native.Nat.{◌+◌, ◌*◌, ◌-◌, ℕ, ◌<◌}
+use mathlib.Core.Path.{sym, ◌∙◌}
+use mathlib.Core.Bool.{true, false}
+use native.Mathlib.Omega.{arith}
+use Rattle.walk.specs.code.Walks.{rank}
+use Rattle.checker.proofs.Selecting.{checking-before, transform_is, a_transform, input_asks, input-stands, input-falls, input-refused, input-passed}
+use Rattle.checker.proofs.Selecting.{rest_of, one-element, element-child_asks, element-small, element_step, element-answer, element-refused}
+use Rattle.checker.proofs.Selecting.{element-passed, element-typed, element-given, mapping_asks, Passing, passing_start, passing-asks, passing-falls}
+use Rattle.checker.proofs.Selecting.{passing-named, passing-refused, passing-more, passing_end}
+use borrow.Author.Rules.{rules}
+use Rattle.checker.proofs.selector.+check_element_check_fields_check_scoped_check_transform.Given as goal
+
+abbrev pub decreases-check_element : goal.decreases-check_element
+decreases-check_element l = 4 * rank l.w + 1
+
+abbrev pub decreases-check_fields : goal.decreases-check_fields
+decreases-check_fields l = 4 * rank l.w + 1
+
+abbrev pub decreases-check_scoped : goal.decreases-check_scoped
+decreases-check_scoped l = 4 * rank l.w + 3
+
+abbrev pub decreases-check_transform : goal.decreases-check_transform
+decreases-check_transform l = 4 * rank l.w + 2
+
+abbrev pub invariant-check_fields-loop-k : goal.invariant-check_fields-loop-k
+invariant-check_fields-loop-k l = Passing l.incoming l.v l.n l.plan l.w l.count l.scope l.c.at l.fields l.k
+
+abbrev pub decreases-check_fields-loop-k : goal.decreases-check_fields-loop-k
+decreases-check_fields-loop-k l = l.count - l.k

@@ -1,0 +1,7 @@
+use Rattle.layout.proofs.Ways.{clash}
+use borrow.Author.Rules.{rules}
+use Rattle.composed.proofs.compose.stored_within.Goals as goal
+
+pub returns-in-Unknown : goal.returns-in-Unknown
+returns-in-Unknown c =
+    λ e. clash (cc)

@@ -1,0 +1,15 @@
+use lib.ListN.{length, set, length-set}
+use Rattle.ends.specs.code.Ends.{Ends}
+use Prim.Native.Nat.{ℕ, ◌%◌, ◌<◌, ◌≤◌, ◌-◌}
+use mathlib.Core.List.{List}
+use mathlib.Core.Path.{subst, refl, sym, ap, ◌∙◌, ◌≡◌}
+use native.Mathlib.Omega.{arith}
+use Rattle.ends.proofs.Entries.{ends-pair}
+use borrow.Author.Rules.{rules}
+use Rattle.ends.proofs.table.keep_pair.Given as goal
+
+abbrev pub invariant-loop-j : goal.invariant-loop-j
+invariant-loop-j l = (l.ends ≡ l.initial.ends) × (l.j % 2 ≡ 1) × (2 < l.j) × (l.j ≤ 4099)
+
+abbrev pub decreases-loop-j : goal.decreases-loop-j
+decreases-loop-j l = 4099 - l.j

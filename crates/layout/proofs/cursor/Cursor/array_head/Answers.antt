@@ -1,0 +1,14 @@
+-- `layout::cursor::Cursor::array_head` meets its contract: each way through it is found by the rules `ways`. Assumes
+-- nothing.
+use borrow.Author.Rules.{rules}
+use Rattle.layout.proofs.Ways.{ways}
+use Rattle.layout.specs.Layout.{array_head}
+use Rattle.layout.proofs.cursor.Cursor.array_head.Goals as goal
+
+pub returns-in-Is : goal.returns-in-Is
+returns-in-Is c =
+    unfold array_head in record { result_value = search (ways, rules) depth 12; head_in = search (ways, rules) depth 12 }
+
+pub returns-in-Refused : goal.returns-in-Refused
+returns-in-Refused c =
+    unfold array_head in record { result_value = search (ways, rules) depth 12; head_in = search (ways, rules) depth 12 }

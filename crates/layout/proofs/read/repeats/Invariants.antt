@@ -1,0 +1,14 @@
+use Prim.Native.Nat.{◌-◌}
+use native.Mathlib.Omega.{arith}
+use Rattle.layout.specs.code.Answers.{label_at}
+use Rattle.layout.proofs.Ways.{label_in}
+use Rattle.layout.proofs.Reading.{Scanning, scanning_none, scanning_all, scanning-no-label, scanning-found, scanning-no-type, scanning-more}
+use Rattle.layout.proofs.Reading.{scanning_free}
+use borrow.Author.Rules.{rules}
+use Rattle.layout.proofs.read.repeats.Given as goal
+
+abbrev pub invariant-loop-i : goal.invariant-loop-i
+invariant-loop-i l = Scanning l.v l.rule l.depth (label_at l.s l.l) l.s l.n l.initial.d.at l.i l.d.at
+
+abbrev pub decreases-loop-i : goal.decreases-loop-i
+decreases-loop-i l = l.n - l.i

@@ -1,0 +1,10 @@
+use Rattle.nodes.proofs.Leading.{Leading, leading_start, leading_end, leading_more}
+use Prim.Native.Nat.{◌-◌}
+use borrow.Author.Rules.{rules}
+use Rattle.nodes.proofs.types.type_at.Given as goal
+
+abbrev pub invariant-loop-i : goal.invariant-loop-i
+invariant-loop-i l = Leading l.v l.s l.initial.d.at l.path l.from l.len l.d.at l.i
+
+abbrev pub decreases-loop-i : goal.decreases-loop-i
+decreases-loop-i l = l.len - l.i

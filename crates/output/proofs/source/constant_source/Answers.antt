@@ -1,0 +1,6 @@
+use borrow.Author.Rules.{rules}
+use Rattle.output.proofs.source.constant_source.Goals as goal
+
+pub returns-in-At : goal.returns-in-At
+returns-in-At c =
+    rw c.in-At.is

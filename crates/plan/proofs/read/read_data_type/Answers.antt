@@ -1,0 +1,7 @@
+use Rattle.plan.proofs.Moves.{type-to}
+use borrow.Author.Rules.{rules}
+use Rattle.plan.proofs.read.read_data_type.Goals as goal
+
+pub returns : goal.returns
+returns c =
+    type-to _ _ c.pass_type.ensures

@@ -1,0 +1,12 @@
+-- `plan::skips::is_long` meets its contract. Assumes nothing.
+use Rattle.layout.proofs.Ways.{clash}
+use borrow.Author.Rules.{rules}
+use Rattle.plan.proofs.skips.is_long.Goals as goal
+
+pub returns-then-to-lt128 : goal.returns-then-to-lt128
+returns-then-to-lt128 c =
+    λ h. clash (cc)
+
+pub returns-then-to-from : goal.returns-then-to-from
+returns-then-to-from c =
+    λ h. clash (cc)

@@ -1,0 +1,7 @@
+-- `rules::params::is_decimal` meets its contract: the kind's number is compared. Assumes nothing.
+use borrow.Author.Rules.{rules}
+use Rattle.rules.proofs.params.is_decimal.Goals as goal
+
+pub returns : goal.returns
+returns c =
+    rw c.kind.ensures

@@ -1,0 +1,18 @@
+use lib.ListN.{length}
+use Rattle.layout.specs.Bytes.{Bytes}
+use Rattle.rules.specs.declared.policy.Policy.{Policy}
+use Rattle.plan.specs.Result.{Answer}
+use Rattle.matching.specs.Calls.{build_by_name}
+use Rattle.selector.proofs.Answers.{build-answered, build-buffer}
+use Rattle.selector.proofs.selector_build_by_name.Goals as goal
+
+pub returns : goal.returns
+returns c =
+    let f : Policy → Answer Bytes = (λ p. build_by_name p c.args.incoming.now
+    c.args.target.now
+    (length c.args.plan.now)) in record {
+      value = build-answered c.from_word.ensures f c.build_by_name.ensures.value
+          c.written.ensures;
+      plan_after = build-buffer c.from_word.ensures f _
+          c.build_by_name.ensures.plan_after;
+    }

@@ -1,0 +1,8 @@
+use mathlib.Core.Path.{refl}
+use Rattle.ends.proofs.Entries.{ends-none}
+use borrow.Author.Rules.{rules}
+use Rattle.values.proofs.constant.read_constant_value.Goals as goal
+
+pub read_value-requires : goal.read_value-requires
+read_value-requires c =
+    record { type_at = c.requires; ends = ends-none refl }

@@ -1,0 +1,21 @@
+-- `values::leaf::read_presence` meets its contract: each way through it is found by the rules `ways`. Assumes nothing.
+use Rattle.layout.proofs.Ways.{ways}
+use Rattle.values.specs.Reading.{presence}
+use borrow.Author.Rules.{rules}
+use Rattle.values.proofs.leaf.read_presence.Goals as goal
+
+pub returns-in-0 : goal.returns-in-0
+returns-in-0 c =
+    unfold presence in search (ways, rules) depth 12
+
+pub returns-in-1 : goal.returns-in-1
+returns-in-1 c =
+    unfold presence in search (ways, rules) depth 12
+
+pub returns-in_default : goal.returns-in_default
+returns-in_default c =
+    unfold presence in search (ways, rules) depth 12
+
+pub returns-in-Refused : goal.returns-in-Refused
+returns-in-Refused c =
+    unfold presence in search (ways, rules) depth 12

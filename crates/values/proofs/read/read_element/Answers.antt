@@ -1,0 +1,8 @@
+-- `values::read::read_element` meets its contract: marks do not count. Assumes nothing.
+use Rattle.values.proofs.Unmarked.{bare-element}
+use borrow.Author.Rules.{rules}
+use Rattle.values.proofs.read.read_element.Goals as goal
+
+pub returns : goal.returns
+returns c =
+    λ P. bare-element _ _ P.tree (c.marked_element.ensures P)

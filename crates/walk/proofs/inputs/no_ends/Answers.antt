@@ -1,0 +1,9 @@
+-- `walk::inputs::no_ends` meets its contract: no end is known. Assumes nothing.
+use borrow.Author.Rules.{rules}
+use Rattle.walk.proofs.Ending.{ends-none}
+use mathlib.Core.Path.{refl}
+use Rattle.walk.proofs.inputs.no_ends.Goals as goal
+
+pub returns : goal.returns
+returns c =
+    (λ plan. ends-none, refl)

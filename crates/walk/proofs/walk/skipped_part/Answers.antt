@@ -1,0 +1,7 @@
+-- `walk::walk::skipped_part` meets its contract: behind the input. Assumes nothing.
+use borrow.Author.Rules.{rules}
+use Rattle.walk.proofs.walk.skipped_part.Goals as goal
+
+pub part-requires : goal.part-requires
+part-requires c =
+    record { skips = c.requires.skips; at_value = c.skip_by-d.ensures }
