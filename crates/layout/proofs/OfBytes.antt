@@ -1,4 +1,4 @@
--- Laws of lists of bytes: `sameBytes` decides equality, and a part of bytes has bytes. Assumes nothing.
+-- Laws of lists of bytes: `same_bytes` decides equality, and a part of bytes has bytes. Assumes nothing.
 use Prim.Native.Nat.{ℕ, ◌+◌, ◌≤◌, ◌<◌}
 use mathlib.Core.Path.{◌≡◌, refl, ap₂}
 use mathlib.Core.List.{[], ◌∷◌}
