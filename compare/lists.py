@@ -237,7 +237,7 @@ def unquoted(text):
 def put_words(body):
     found = {}
     for numbers, result in arms(body):
-        match = re.fullmatch(r'put\( ?b"((?:[^"\\]|\\.)*)",? ?\)', result)
+        match = re.fullmatch(r'put\( ?(?:rt, )?b"((?:[^"\\]|\\.)*)",? ?\)', result)
         if match and numbers != "_":
             for number in numbers_of(numbers):
                 found[number] = unquoted(match[1])
@@ -249,7 +249,7 @@ def show(refusals, _):
     parts = functions(read(file))
     given, reached = {}, set()
     for numbers, result in arms(parts.get("put_words", "")):
-        match = re.fullmatch(r"(\w+)\(number\)", result)
+        match = re.fullmatch(r"(\w+)\((?:rt, )?number\)", result)
         if not match or numbers == "_":
             continue
         reached.add(match[1])

@@ -1,19 +1,18 @@
 -- A type's parts by the answer of `head`, and the leaf case. Assumes nothing.
-use Prim.Native.Nat.{ℕ, suc, ◌+◌, ◌-◌, ◌≤◌, ◌<◌}
+use Prim.Native.Nat.{ℕ, ◌+◌, ◌-◌, ◌≤◌, ◌<◌}
 use mathlib.Core.Path.{◌≡◌, refl, sym, ap, ◌∙◌, subst}
-use mathlib.Core.List.{[], ◌∷◌}
 use mathlib.Core.Bool.{Bool, true, false}
 use native.Mathlib.Omega.{arith}
 use lib.ListN.{length, take, drop}
 use native.Mathlib.Nat.{add-sub_cancel_left}
 use lib.Dec.{eqb}
 use Rattle.layout.specs.Bytes.{Bytes}
-use Rattle.layout.specs.Parser.{Res, ok}
+use Rattle.layout.specs.Parser.{ok}
 use Rattle.layout.specs.Tree.{LeafType, leaf_type, leaf_of, Label, ColumnType, cleaf, cstruct, clist, carray, Columns, dtype_of}
 use Rattle.layout.specs.Layout.{Head, a_leaf, a_struct, a_list, an_array, kind, element_label}
 use Rattle.layout.specs.code.Answers.{head_res, HeadIn, leaf_at, label_at, span_at, SpanIn}
 use Rattle.layout.specs.code.Parts.{ElementRead, PartsIs}
-use Rattle.layout.specs.code.Stands.{TypeAt, ColumnsAt}
+use Rattle.layout.specs.code.Stands.{TypeAt}
 use Rattle.layout.specs.declared.columns.Position.{Position}
 use Rattle.layout.specs.declared.columns.Label.{Label as LabelSpan}
 use Rattle.layout.specs.declared.cursor.Cursor.{Cursor}
@@ -25,13 +24,12 @@ use Rattle.layout.specs.declared.edition.Edition.TheVariants.{One, Two, Three}
 use Rattle.layout.specs.declared.matching.Matching.{Matching}
 use Rattle.layout.specs.declared.matching.Matching.TheVariants.{ByName, ByNumber}
 use Rattle.layout.proofs.Ways.{clash, head_in}
-use Rattle.layout.proofs.View.{leaf_at_lem, StructAt, struct_at, ListAt, ArrayAt, list-parts, array_parts, leaf-opened, struct-opened, list-opened, array-opened}
+use Rattle.layout.proofs.View.{leaf_at_lem, struct_at, list-parts, array_parts, leaf-opened, struct-opened, list-opened, array-opened}
 use Rattle.forms.specs.Form.{u16_bytes, u32_bytes, text_bytes, kind_form}
 use Rattle.forms.specs.code.Heads.{head_of}
 use Rattle.forms.proofs.Read.{ok_eq, label-ends}
-use Rattle.forms.proofs.Heads.{HeadAt, head_at}
+use Rattle.forms.proofs.Heads.{head_at}
 use Rattle.forms.proofs.Writing.{span-long}
-use Rattle.rules.specs.Classes.{is_null}
 use Rattle.rules.specs.Kinds.{kind_of}
 use Rattle.rules.specs.Outcomes.{Verdict, untouched, refused, cast as casts}
 use Rattle.rules.specs.Pairs.{pair_rule}
@@ -39,10 +37,10 @@ use Rattle.layout.proofs.Leaves.{leaf_of-type}
 use Rattle.rules.specs.declared.policy.Policy.{Policy}
 use Rattle.plan.specs.Result.{Result, gives, refuses, ◌>>=◌}
 use Rattle.plan.specs.Selector.{Selector}
-use Rattle.matching.specs.Default.{Defaults, no_defaults}
+use Rattle.matching.specs.Default.{Defaults}
 use Rattle.matching.specs.Build.{leaf_part, struct_part, is_null_type, ruled, attach_transforms}
 use Rattle.matching.specs.Calls.{takes}
-use Rattle.builder.specs.code.Answers.{LeafIs, LeafPartIs, StructIs, StructPartIs, Inner, no_element, list_element, array_element, element_of, ElementIs}
+use Rattle.builder.specs.code.Answers.{LeafPartIs, StructPartIs, Inner, no_element, element_of, ElementIs}
 use Rattle.builder.specs.code.Answers.{ElementPartIs, needs_rename, made_of, Wrote, Makes, by_rule}
 use Rattle.builder.specs.declared.answer.Made.{Made}
 use Rattle.builder.specs.declared.parts.LeafPart.{LeafPart}

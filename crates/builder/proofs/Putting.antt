@@ -8,7 +8,7 @@ use Rattle.store.specs.code.Overlay.{overlay}
 use Rattle.store.proofs.Overlay.{overlay-append}
 use Rattle.store.proofs.Holds.{holds_exact}
 use Rattle.layout.specs.Bytes.{Bytes}
-use Rattle.layout.specs.Tree.{LeafType, DataType, leaf, struct, list, array, dtype_of}
+use Rattle.layout.specs.Tree.{DataType, leaf, struct, list, array, dtype_of}
 use Rattle.layout.specs.code.Stands.{TypeAt}
 use Rattle.layout.specs.declared.columns.Position.{Position}
 use Rattle.layout.specs.declared.edition.Edition.{Edition}

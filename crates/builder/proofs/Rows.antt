@@ -3,30 +3,28 @@
 use Prim.Native.Nat.{ℕ, suc, ◌+◌, ◌*◌, ◌≤◌, ◌<◌}
 use mathlib.Core.Path.{◌≡◌, refl, sym, ap, ◌∙◌, subst}
 use mathlib.Core.Bool.{Bool, true, false, ◌&&◌}
-use mathlib.Core.List.{List, [], ◌∷◌, ◌++◌, append_assoc}
+use mathlib.Core.List.{[], ◌∷◌, ◌++◌}
 use native.Mathlib.Omega.{arith}
 use lib.ListN.{length, set, length-append}
 use lib.Dec.{eqb}
 use Rattle.store.specs.code.Overlay.{overlay, Agree, Holds}
-use Rattle.store.proofs.Overlay.{overlay-append, length-overlay}
+use Rattle.store.proofs.Overlay.{overlay-append}
 use Rattle.store.proofs.Holds.{holds_exact, holds-before, holds-append, holds-over, agree_less}
 use Rattle.layout.specs.Bytes.{Bytes}
 use Rattle.layout.specs.Parser.{choose}
-use Rattle.layout.specs.Find.{counterpart}
 use Rattle.layout.specs.declared.columns.Position.{Position}
 use Rattle.layout.proofs.Ways.{clash}
 use Rattle.forms.specs.Form.{u16_bytes, text_bytes}
 use Rattle.plan.specs.Result.{Result, gives, refuses, ◌>>=◌}
 use Rattle.plan.specs.Selector.{Selector, position, constant, cast, rename, struct_mapping, list_mapping, array_mapping, Selectors, snil, scons, count_selectors}
 use Rattle.plan.specs.Encode.{encode_selector, encode_selectors}
-use Rattle.matching.specs.Build.{is_position, in_place_of, list_selector, array_selector, struct_selector, attach_fields, sought, missing, attach_transforms, renamed}
-use Rattle.matching.specs.Build.{inserts}
+use Rattle.matching.specs.Build.{is_position, in_place_of, list_selector, array_selector, struct_selector, attach_fields}
 use Rattle.builder.specs.code.Answers.{made_of, row_of, is_refused, is_bare, len_of, failed_of, refused_row, join_row, Wrote, WroteRow, Makes, MakesRow, Maps}
 use Rattle.builder.specs.declared.answer.Made.{Made}
-use Rattle.builder.specs.declared.answer.Made.TheVariants.{Refused, Bare, Built}
+use Rattle.builder.specs.declared.answer.Made.TheVariants.{Bare, Built}
 use Rattle.builder.specs.declared.answer.Row.{Row}
 use Rattle.builder.specs.declared.answer.Row.TheVariants.{Failed, Done}
-use Rattle.layout.specs.Tree.{Label, ColumnType, Columns, cnil, ccons, count_columns}
+use Rattle.layout.specs.Tree.{Columns, cnil, ccons, count_columns}
 use Rattle.layout.specs.declared.matching.Matching.{Matching}
 use Rattle.rules.specs.declared.policy.Policy.{Policy}
 use Rattle.matching.specs.Default.{Defaults}

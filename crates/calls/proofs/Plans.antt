@@ -13,7 +13,7 @@ use Rattle.store.specs.code.Overlay.{overlay, Holds}
 use Rattle.store.proofs.Overlay.{overlay_front, slice-take}
 use Rattle.store.proofs.Holds.{holds_exact, holds-append, holds_front}
 use Rattle.layout.specs.Bytes.{Bytes}
-use Rattle.layout.specs.Parser.{Res, refuse, ok}
+use Rattle.layout.specs.Parser.{refuse, ok}
 use Rattle.layout.specs.Tree.{Columns, cnil, ccons, count_columns, Layout}
 use Rattle.layout.specs.Layout.{columns, type, deepest, layout}
 use Rattle.layout.specs.code.Answers.{layout_of}

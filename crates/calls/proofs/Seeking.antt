@@ -7,7 +7,7 @@ use mathlib.Core.List.{[]}
 use native.Mathlib.Omega.{arith}
 use Rattle.layout.specs.Bytes.{Bytes}
 use Rattle.layout.specs.Parser.{ok, choose}
-use Rattle.layout.specs.Tree.{Columns, cnil}
+use Rattle.layout.specs.Tree.{Columns}
 use Rattle.layout.specs.Layout.{label, columns, type, deepest}
 use Rattle.layout.specs.Find.{counterpart}
 use Rattle.layout.specs.code.Answers.{label_res, label_at}

@@ -9,7 +9,7 @@ use Rattle.layout.proofs.Ways.{clash}
 use Rattle.forms.specs.code.Heads.{head_of}
 use Rattle.plan.specs.Result.{gives}
 use Rattle.plan.specs.Selector.{Selector, position, constant, cast, rename, struct_mapping, list_mapping, array_mapping, Selectors, snil, scons, count_selectors}
-use Rattle.plan.specs.Check.{Column, column, column_at, element_of, type_of}
+use Rattle.plan.specs.Check.{Column, column_at, element_of, type_of}
 use Rattle.plan.specs.Reach.{SelectorAt as Nth, s_here, s_there}
 use Rattle.plan.proofs.Results.{gives_eq}
 use Rattle.walk.specs.code.State.{Frame, fields, element, State, state}

@@ -24,7 +24,7 @@ use Rattle.layout.proofs.View.{struct_at}
 use Rattle.forms.specs.code.Heads.{head_of}
 use Rattle.plan.specs.Result.{gives}
 use Rattle.plan.specs.Selector.{Selector, struct_mapping, Selectors}
-use Rattle.plan.specs.Check.{Column, column, column_at, type_of}
+use Rattle.plan.specs.Check.{Column, column_at, type_of}
 use Rattle.plan.proofs.Results.{never_refused, gives_eq}
 use Rattle.walk.specs.code.State.{Frame, State, state}
 use Rattle.walk.specs.code.Stands.{SelectorAt}

@@ -10,7 +10,7 @@ use Rattle.rules.specs.declared.outcome.CastOption.{CastOption}
 use Rattle.values.specs.Value.{Value}
 use Rattle.plan.specs.Result.{gives}
 use Rattle.plan.specs.Selector.{Selector, position, constant, cast, rename, struct_mapping, list_mapping, array_mapping, Selectors}
-use Rattle.plan.specs.Check.{Column, column, column_at, type_of}
+use Rattle.plan.specs.Check.{Column, column_at, type_of}
 use Rattle.plan.proofs.Results.{gives_eq}
 use Rattle.walk.specs.code.State.{Frame, State, state}
 use Rattle.walk.specs.code.Moves.{Stopped, s_column, s_constant, s_cast, s_rename, s_struct, s_list, s_array, s_no_element, s_no_field}

@@ -26,7 +26,7 @@ use borrow.Author.Tests.{eqb-true}
 use Rattle.forms.proofs.Comparing.{split, Split}
 use Rattle.values.proofs.Inside.{renumber-ok}
 use Rattle.plan.specs.Result.{Result, gives, refuses, demand, Answer, accepted, refused_at, placed, answered}
-use Rattle.plan.specs.Selector.{Selector, Selectors, snil, scons, count_selectors, nesting, nesting_all}
+use Rattle.plan.specs.Selector.{Selector, Selectors, snil, scons, count_selectors, nesting_all}
 use Rattle.plan.specs.Check.{Column, column, type_of, top_types, against, check}
 use Rattle.plan.specs.Read.{selectors as selectorsOf, selector, plan_from, plan_sized, plan_version, plan_counted, plan as read_plan}
 use Rattle.plan.specs.code.Answers.{plan_read}

@@ -11,19 +11,17 @@ ghost use Rattle.checker.specs.declared.resolve.Source.{Source as SourceOf};
 ghost use Rattle.checker.specs.code.TypesAt.{PartOf, TypedAt, NamedAt, MappedAt, ResolvedAt};
 ghost use Rattle.checker.specs.code.Tables.{Tables};
 ghost use Rattle.checker.specs.code.Limits.{fit_of, type_fit, fields_fit_of, column_fit_of, around_of, joined_of, added_of, Bounded, size_of};
+
 use crate::head::type_head;
 use crate::name::name_at;
 use crate::part::part;
 use crate::place::TypeHead;
-use crate::resolve::Resolved;
-use crate::resolve::Source;
-use crate::resolve::resolve;
+use crate::resolve::{Resolved, Source, resolve};
 use layout::cursor::Cursor;
 use layout::edition::Edition;
 use layout::limits::LONGEST;
 use nodes::types::form_size;
-use walk::child::child_at;
-use walk::child::first_child;
+use walk::child::{child_at, first_child};
 use walk::head::skip_by;
 use walk::walk::Walk;
 

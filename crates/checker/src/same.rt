@@ -13,24 +13,21 @@ ghost use Rattle.checker.specs.declared.resolve.Source.{Source as SourceOf};
 ghost use Rattle.checker.specs.code.TypesAt.{PartOf, NamedAt, MappedAt, ResolvedAt, head_kind};
 ghost use Rattle.checker.specs.code.Tables.{Tables};
 ghost use Rattle.checker.specs.code.Same.{ends_from, ends_of, code_of};
+
 use crate::head::type_head;
 use crate::name::name_at;
 use crate::part::part;
 use crate::place::TypeHead;
-use crate::resolve::Resolved;
-use crate::resolve::Source;
-use crate::resolve::resolve;
+use crate::resolve::{Resolved, Source, resolve};
 use direct::place::same_name;
-use forms::compare::Same;
-use forms::compare::same_type;
+use forms::compare::{Same, same_type};
 use forms::head::head_end;
 use layout::columns::Labelled;
 use layout::cursor::Cursor;
 use layout::edition::Edition;
 use layout::types::Head;
 use nodes::places::TypePlace;
-use walk::child::child_at;
-use walk::child::first_child;
+use walk::child::{child_at, first_child};
 use walk::head::skip_by;
 use walk::walk::Walk;
 

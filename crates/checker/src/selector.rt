@@ -14,15 +14,10 @@ ghost use Rattle.checker.specs.code.TypesAt.{TypeHeadIs, ScopedAt, TypedAt, Name
 ghost use Rattle.checker.specs.code.Tables.{Tables};
 ghost use Rattle.checker.specs.code.Limits.{size_of, within_fit, Limited, ScopeIs};
 ghost use Rattle.checker.specs.code.Checking.{checked_of, dropped_of, measured_of, MeasuredIs, fitting_of, is_transform, CheckingAt, PassedInput, nothing_left, fields_left, listed_left, arrayed_left, RestIs, MappingAt, Elements, fields_result, element_result};
+
 use crate::cast::cast_fits;
 use crate::head::type_head;
-use crate::limits::Fit;
-use crate::limits::Size;
-use crate::limits::add_field;
-use crate::limits::around;
-use crate::limits::list_fit;
-use crate::limits::raw_fit;
-use crate::limits::sized_fit;
+use crate::limits::{Fit, Size, add_field, around, list_fit, raw_fit, sized_fit};
 use crate::part::enclosing;
 use crate::place::TypeHead;
 use crate::resolve::resolve;
@@ -30,13 +25,8 @@ use layout::columns::Position;
 use layout::cursor::Cursor;
 use layout::edition::Edition;
 use layout::limits::LONGEST;
-use walk::child::child_at;
-use walk::child::first_child;
-use walk::head::SelectorHead;
-use walk::head::cast_option;
-use walk::head::counted_at;
-use walk::head::head;
-use walk::head::skip_by;
+use walk::child::{child_at, first_child};
+use walk::head::{SelectorHead, cast_option, counted_at, head, skip_by};
 use walk::walk::Walk;
 
 // Whether a selector passes, or the number of its refusal.
@@ -316,13 +306,7 @@ fn check_input(
         SelectorHead::Position(_) => Rest::Refused(32),
         SelectorHead::Constant(_, _) => Rest::Refused(32),
         SelectorHead::Cast(input) => nothing_left(cast_result(
-            incoming,
-            v,
-            n,
-            plan,
-            x,
-            input,
-            tables,
+            incoming, v, n, plan, x, input, tables,
         )),
         SelectorHead::Rename(_) => {
             nothing_left(rename_result(incoming, v, n, plan, x, size, within, tables))

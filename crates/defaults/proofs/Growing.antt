@@ -5,7 +5,7 @@ use mathlib.Core.Path.{◌≡◌}
 use mathlib.Core.Bool.{Bool, true, false}
 use native.Mathlib.Omega.{arith}
 use Rattle.layout.specs.Bytes.{Bytes}
-use Rattle.layout.specs.Parser.{Res, refuse, ok, Parser, next, choose, byte, chunk, u16}
+use Rattle.layout.specs.Parser.{Res, refuse, ok, next, choose, byte, chunk, u16}
 use Rattle.layout.specs.Tree.{LeafType, leaf_of, leaf}
 use Rattle.layout.specs.Layout.{Head, a_leaf, a_struct, a_list, an_array, plain_leaf, text, unit, leaf_head, datetime_head, decimal_params, decimal_head}
 use Rattle.layout.specs.declared.leaf.Leaf.{Leaf}
@@ -13,7 +13,6 @@ use Rattle.layout.specs.declared.types.PlainLeaf.{PlainLeaf}
 use Rattle.layout.specs.declared.types.PlainLeaf.TheVariants.{Known, Unknown}
 use Rattle.layout.proofs.Ways.{clash}
 use Rattle.layout.proofs.View.{next-ok}
-use Rattle.values.specs.Value.{Value}
 use Rattle.values.specs.Content.{content_of}
 use Rattle.values.specs.declared.content.Content.{Content}
 use Rattle.values.specs.declared.content.Content.TheVariants.{Nothing, Flag, Number, Decimal, Text}

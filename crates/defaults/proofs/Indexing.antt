@@ -27,7 +27,7 @@ use Rattle.values.proofs.Stand.{byte_back}
 use Rattle.defaults.specs.Table.{Given, Entry, kind_of, counts_for, same_kind_of, same_owner, entry_kind, given_of, table_number, entry, owner_of, entries}
 use Rattle.defaults.specs.code.Answers.{kind_res, owner_res, entry_of, entry_after, entry_read_of}
 use Rattle.defaults.specs.code.Scan.{is_of, seek_on, seek, is_found}
-use Rattle.defaults.specs.code.Index.{EntryHead, entry_head, entry_head_res, owner_in, links, head_of, pushed, found_or, follow, followed, Inside}
+use Rattle.defaults.specs.code.Index.{entry_head, entry_head_res, owner_in, links, head_of, pushed, found_or, follow, followed, Inside}
 use Rattle.defaults.specs.code.Index.{Indexed}
 use Rattle.defaults.specs.declared.read.Owner.{Owner}
 use Rattle.defaults.specs.declared.read.TableVersion.{TableVersion}

@@ -7,7 +7,7 @@ use mathlib.Core.Bool.{Bool, true, false, ◌||◌, or_assoc, or-false}
 use native.Mathlib.Omega.{arith}
 use lib.Dec.{eqb}
 use Rattle.layout.specs.Bytes.{Bytes}
-use Rattle.layout.specs.Parser.{Res, refuse, ok, next, choose, byte, u16, u32}
+use Rattle.layout.specs.Parser.{Res, refuse, ok, next, choose, u16, u32}
 use Rattle.layout.specs.code.Answers.{long_res, moved_of}
 use Rattle.layout.specs.declared.columns.FieldId.{FieldId}
 use Rattle.layout.specs.declared.cursor.Cursor.{Cursor}

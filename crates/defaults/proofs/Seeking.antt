@@ -24,8 +24,8 @@ use Rattle.defaults.specs.declared.read.TableVersion.{TableVersion}
 use Rattle.defaults.specs.declared.read.EntryKind.{EntryKind}
 use Rattle.defaults.specs.declared.read.EntryKind.TheVariants.{Initial, Partition}
 use Rattle.defaults.specs.declared.read.EntryFound.{EntryFound}
-use Rattle.defaults.proofs.Reading.{EntryIs, entry-is, seek-suc}
-use Rattle.defaults.proofs.Top.{FirstEntry, first_entry}
+use Rattle.defaults.proofs.Reading.{entry-is, seek-suc}
+use Rattle.defaults.proofs.Top.{first_entry}
 use Rattle.defaults.proofs.Taking.{answers_as}
 
 -- whether an entry is of the id i and of the kind k

@@ -6,7 +6,7 @@ use native.Mathlib.Omega.{arith}
 use borrow.Author.Tests.{ne_eqb}
 use Rattle.layout.specs.Bytes.{Bytes}
 use Rattle.layout.specs.Parser.{Res, refuse, ok, next, choose, byte, u16}
-use Rattle.layout.specs.Tree.{LeafType, leaf_type, leaf_of, leaf}
+use Rattle.layout.specs.Tree.{LeafType, leaf}
 use Rattle.layout.specs.Layout.{kind, kind_of, leaf_head}
 use Rattle.layout.specs.code.Answers.{step_res, short_res, head_res, leaf_at, moved_of}
 use Rattle.layout.specs.declared.cursor.Cursor.{Cursor}

@@ -8,7 +8,7 @@ use lib.ListN.{length, take}
 use lib.Dec.{eqb}
 use borrow.Author.Tests.{leb-true}
 use Rattle.layout.specs.Bytes.{Bytes, AllBytes, same_bytes}
-use Rattle.layout.specs.Parser.{Res, refuse, ok, next, choose, byte}
+use Rattle.layout.specs.Parser.{Res, refuse, ok, choose, byte}
 use Rattle.layout.specs.Tree.{LeafType, leaf}
 use Rattle.layout.specs.Layout.{sized, ended}
 use Rattle.layout.specs.code.Answers.{leaf_at, SpanIn}

@@ -18,7 +18,7 @@ use Rattle.rules.specs.declared.policy.Policy.{Policy}
 use Rattle.rules.specs.declared.policy.ExtraColumnsPolicy.{ExtraColumnsPolicy}
 use Rattle.rules.specs.declared.policy.ExtraColumnsPolicy.TheVariants.{Ignore, Raise}
 use Rattle.rules.specs.declared.outcome.CastOption.{CastOption}
-use Rattle.rules.specs.code.Choice.{if◌then◌else◌}
+use Rattle.rules.specs.code.Choice.{when◌then◌else◌}
 use Rattle.rules.specs.Outcomes.{Verdict, untouched, refused, cast, need}
 use Rattle.rules.specs.Params.{params_of, same_as_utc, widened}
 use Rattle.rules.specs.Classes.{is_null, is_integer, is_float, is_datetime, unit, is_categorical, is_string, is_decimal}
@@ -58,7 +58,7 @@ data VerdictIn (ns : List ℕ) : Verdict → Type 0 where
   in_refused : {n : ℕ} → is_in n ns ≡ true → VerdictIn ns (refused n)
   in_cast : {o : CastOption} → VerdictIn ns (cast o)
 
-test_in : {ns : List ℕ} (b : Bool) {x y : Verdict} → VerdictIn ns x → VerdictIn ns y → VerdictIn ns (if b then x else y)
+test_in : {ns : List ℕ} (b : Bool) {x y : Verdict} → VerdictIn ns x → VerdictIn ns y → VerdictIn ns (when b then x else y)
 test_in true o p = o
 test_in false o p = p
 

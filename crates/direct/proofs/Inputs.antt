@@ -8,12 +8,11 @@ use Rattle.layout.specs.Bytes.{Bytes}
 use Rattle.layout.specs.Tree.{DataType, Fields}
 use Rattle.layout.specs.declared.cursor.Cursor.{Cursor}
 use Rattle.plan.specs.Result.{gives}
-use Rattle.plan.specs.Selector.{Selector}
 use Rattle.plan.specs.Check.{column, within_limits, type_of}
 use Rattle.walk.specs.code.Stands.{SelectorAt}
 use Rattle.walk.specs.code.Parts.{CastAt, RenameAt, StructAt, ListAt, ArrayAt}
 use Rattle.walk.proofs.View.{same-selector, starts-inside}
-use Rattle.direct.specs.code.Inputs.{input_of, InputAt, InputIs, Unrenamed}
+use Rattle.direct.specs.code.Inputs.{input_of, InputIs, Unrenamed}
 use Rattle.direct.specs.declared.input.Input.{Input}
 use Rattle.direct.proofs.Trees.{rename-gives}
 

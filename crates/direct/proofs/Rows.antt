@@ -23,7 +23,6 @@ use Rattle.forms.proofs.Comparing.{behind-label, split, Split}
 use Rattle.plan.specs.Result.{gives}
 use Rattle.plan.specs.Selector.{Selectors}
 use Rattle.plan.specs.Check.{column, type_of, types_of}
-use Rattle.plan.specs.Read.{selector}
 use Rattle.walk.specs.code.Stands.{SelectorsAt}
 use Rattle.walk.proofs.View.{FirstAt, first-at, no_selector, selectors_moved}
 use Rattle.index.specs.code.Indexed.{Indexed}

@@ -2,21 +2,20 @@
 -- nothing.
 use Prim.Native.Nat.{ℕ, suc, ◌+◌, ◌-◌, ◌≤◌, ◌<◌}
 use mathlib.Core.Path.{◌≡◌, refl, sym, ap, ◌∙◌}
-use mathlib.Core.List.{List, [], ◌∷◌, ◌++◌}
+use mathlib.Core.List.{[], ◌∷◌, ◌++◌}
 use mathlib.Core.Bool.{Bool, true, false, not, ◌&&◌, and_assoc}
 use native.Mathlib.Omega.{arith}
 use native.Mathlib.Nat.{add-sub_cancel_left}
-use lib.ListN.{length, take, drop}
-use lib.Dec.{eqb}
+use lib.ListN.{take, drop}
 use lib.Seq.{slice}
 use borrow.Author.Tests.{eq-eqb}
 use Rattle.layout.specs.Bytes.{Bytes, same_bytes, AllBytes}
-use Rattle.layout.specs.Parser.{Res, refuse, ok, next, Parser, test}
-use Rattle.layout.specs.Tree.{LeafType, Label, ColumnType, cleaf, cstruct, clist, carray, Columns, cnil, ccons, DataType, Fields, fnil, fcons, dtype_of}
+use Rattle.layout.specs.Parser.{refuse, ok, next, Parser, test}
+use Rattle.layout.specs.Tree.{LeafType, Label, cleaf, cstruct, clist, carray, Columns, ccons, DataType, Fields, fnil, dtype_of}
 use Rattle.layout.specs.Tree.{fields_of}
-use Rattle.layout.specs.Layout.{Head, a_leaf, a_struct, a_list, an_array, kind, body, struct_type, list_type, array_type, label, element_label, columns, type}
+use Rattle.layout.specs.Layout.{Head, a_leaf, a_struct, a_list, an_array, kind, body, struct_type, list_type, array_type, label, columns, type}
 use Rattle.layout.specs.Layout.{repeats_any}
-use Rattle.layout.specs.code.Answers.{span_at, SpanIn, head_res, leaf_at, label_res, label_at}
+use Rattle.layout.specs.code.Answers.{span_at, SpanIn, head_res, leaf_at, label_res}
 use Rattle.layout.specs.code.Stands.{TypeAt, ColumnsAt}
 use Rattle.layout.specs.declared.bytes.Span.{Span}
 use Rattle.layout.specs.declared.cursor.Cursor.{Cursor}
@@ -30,7 +29,7 @@ use Rattle.layout.proofs.Ways.{clash}
 use Rattle.layout.proofs.View.{next-ok, deep, label_got, label-none, same-columns, columns-any, no_column}
 use Rattle.forms.specs.Form.{kind_form}
 use Rattle.forms.specs.code.Heads.{head_of}
-use Rattle.forms.specs.code.Compare.{same_leaf, same_dtype, same_fields_of}
+use Rattle.forms.specs.code.Compare.{same_dtype, same_fields_of}
 use Rattle.forms.specs.code.Answers.{same_of}
 use Rattle.forms.specs.code.Labelled.{LabelledAt, ElementAt, ColumnAt}
 use Rattle.forms.specs.declared.compare.Same.{Same}

@@ -1,12 +1,12 @@
 -- Where what a type begins with ends, by the answer of `head`. Assumes nothing.
 use Prim.Native.Nat.{ℕ, suc, ◌+◌, ◌-◌, ◌≤◌, ◌<◌}
 use mathlib.Core.Path.{◌≡◌, refl, sym, ap, ◌∙◌}
-use mathlib.Core.List.{[], ◌∷◌}
+use mathlib.Core.List.{[]}
 use native.Mathlib.Omega.{arith}
 use lib.ListN.{length, length-append}
 use Rattle.layout.specs.Bytes.{Bytes}
-use Rattle.layout.specs.Parser.{Res, refuse, ok, Parser}
-use Rattle.layout.specs.Tree.{LeafType, ColumnType, Columns, cnil, ccons, count_columns, count_fields, dtype_of, fields_of}
+use Rattle.layout.specs.Parser.{Res, ok, Parser}
+use Rattle.layout.specs.Tree.{ColumnType, Columns, cnil, ccons, count_columns, count_fields, dtype_of, fields_of}
 use Rattle.layout.specs.Layout.{Head, a_leaf, a_struct, a_list, an_array, kind, body, struct_type, list_type, array_type, type}
 use Rattle.layout.specs.code.Answers.{head_res}
 use Rattle.layout.specs.code.Stands.{TypeAt}
@@ -18,7 +18,7 @@ use Rattle.layout.specs.declared.columns.Siblings.{Siblings}
 use Rattle.layout.specs.declared.columns.Siblings.TheVariants.{Free}
 use Rattle.layout.proofs.Top.{columns-count}
 use Rattle.layout.proofs.View.{next-ok, deep}
-use Rattle.forms.specs.Form.{u16_bytes, u32_bytes, leaf_form, kind_form, form}
+use Rattle.forms.specs.Form.{leaf_form, kind_form, form}
 use Rattle.forms.specs.code.Heads.{head_of, rest_form}
 use Rattle.forms.specs.code.Answers.{end_of}
 use Rattle.forms.proofs.Equal.{form-kind}

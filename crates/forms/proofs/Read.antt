@@ -8,7 +8,7 @@ use lib.ListN.{length, get_or, take, drop}
 use lib.Dec.{ltb, leb, eqb}
 use borrow.Author.Tests.{ltb-true, leb-true, eqb-true}
 use Rattle.layout.specs.Bytes.{Bytes, AllBytes}
-use Rattle.layout.specs.Parser.{Res, refuse, ok, next, choose, Parser, byte, chunk, u16, u32, test}
+use Rattle.layout.specs.Parser.{Res, refuse, ok, choose, byte, chunk, u16, u32, test}
 use Rattle.layout.specs.Tree.{LeafType, leaf_type, datetime, decimal, Label, ColumnType, cleaf, cstruct, clist, carray, Columns, cnil, ccons}
 use Rattle.layout.specs.Layout.{Head, a_leaf, a_struct, a_list, an_array, text, unit, valid_decimal, decimal_params, plain_leaf, leaf_head, datetime_head, decimal_head}
 use Rattle.layout.specs.Layout.{struct_head, array_head, kind_of, kind, field_id, required_mark, field_mark, label_rest, label, element_label, repeats_any, columns}
@@ -26,9 +26,9 @@ use Rattle.layout.proofs.Ways.{clash}
 use Rattle.layout.proofs.View.{next-ok}
 use Rattle.layout.specs.Layout.{unit_code}
 use Rattle.forms.specs.Form.{u16_bytes, u32_bytes, text_bytes, carried, leaf_form, kind_form}
-use Rattle.forms.specs.code.Readable.{ShortText, ReadableLeaf}
+use Rattle.forms.specs.code.Readable.{ReadableLeaf}
 use Rattle.forms.proofs.Leaves.{plain_form}
-use Rattle.forms.proofs.Slices.{Stands, stands_eq, stands-none, stands_one, stands-append, stands-length}
+use Rattle.forms.proofs.Slices.{Stands, stands_eq, stands_one, stands-append, stands-length}
 use Rattle.layout.proofs.OfBytes.{bytes-part}
 use Rattle.store.proofs.Overlay.{slice-take}
 

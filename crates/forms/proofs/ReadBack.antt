@@ -1,21 +1,20 @@
 -- What holds of every type that was read: how far it reaches, its depth, that it is readable, and in version 1 that its
 -- bytes are its form. Assumes nothing.
-use Prim.Native.Nat.{ℕ, zero, suc, ◌+◌, ◌≤◌, ◌<◌, max}
+use Prim.Native.Nat.{ℕ, suc, ◌+◌, ◌≤◌}
 use mathlib.Core.Path.{◌≡◌, refl, sym, ap, ◌∙◌}
-use mathlib.Core.List.{List, [], ◌∷◌, ◌++◌}
+use mathlib.Core.List.{◌++◌}
 use native.Mathlib.Omega.{arith}
 use lib.ListN.{length, length-append}
 use Rattle.layout.specs.Bytes.{Bytes, AllBytes}
-use Rattle.layout.specs.Parser.{ok}
-use Rattle.layout.specs.Tree.{ColumnType, cleaf, cstruct, clist, carray, Columns, cnil, ccons, dtype_of, fields_of, count_fields}
-use Rattle.layout.specs.Layout.{Head, a_leaf, a_struct, a_list, an_array}
+use Rattle.layout.specs.Tree.{ColumnType, Columns, dtype_of, fields_of, count_fields}
+use Rattle.layout.specs.Layout.{a_leaf, a_struct, a_list, an_array}
 use Rattle.layout.specs.declared.edition.Edition.{Edition}
 use Rattle.layout.specs.declared.edition.Edition.TheVariants.{One}
 use Rattle.forms.specs.Form.{text_bytes, leaf_form, kind_form, form, form_fields}
 use Rattle.forms.specs.code.Readable.{Readable, ReadableFields}
 use Rattle.forms.specs.Depth.{depth_of, depth_of_fields}
-use Rattle.forms.proofs.Slices.{Stands, stands_eq, stands-none, stands-append, stands-length}
-use Rattle.forms.proofs.Read.{KindRead, kind-ends, kind-stands, label-ends, element-ends, label-stands, element-stands, TypeRead, tr_leaf, tr_struct}
+use Rattle.forms.proofs.Slices.{Stands, stands_eq, stands-none, stands-append}
+use Rattle.forms.proofs.Read.{kind-ends, kind-stands, label-ends, element-ends, label-stands, element-stands, TypeRead, tr_leaf, tr_struct}
 use Rattle.forms.proofs.Read.{tr_list, tr_array, ColumnsRead, cr_none, cr_column}
 
 -- from `at` up to e, of which n are needed, and k of d levels

@@ -1,13 +1,10 @@
 -- Some types, their forms and what comparing them gives: computed.
-use Prim.Native.Nat.{ℕ}
 use mathlib.Core.Path.{◌≡◌, refl}
 use mathlib.Core.List.{[], ◌∷◌}
-use mathlib.Core.Bool.{Bool, true, false}
+use mathlib.Core.Bool.{Bool, false}
 use Rattle.layout.specs.Bytes.{Bytes, same_bytes}
-use Rattle.layout.specs.Tree.{boolean, string, datetime, DataType, leaf, struct, list, array, Fields, fnil, fcons, count_fields, integer}
-use Rattle.layout.specs.declared.leaf.TimeUnit.{TimeUnit}
+use Rattle.layout.specs.Tree.{boolean, string, datetime, DataType, leaf, struct, list, array, fnil, fcons, count_fields, integer}
 use Rattle.layout.specs.declared.leaf.TimeUnit.TheVariants.{Microseconds, Milliseconds}
-use Rattle.layout.specs.Layout.{unit_code}
 use Rattle.forms.specs.Form.{u16_bytes, u32_bytes, text_bytes, carried, leaf_form, kind_form, form, form_fields}
 use Rattle.forms.specs.Same.{equal_types}
 use Rattle.forms.specs.code.Compare.{same_leaf, same_dtype, same_fields_of}

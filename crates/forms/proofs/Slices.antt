@@ -1,13 +1,12 @@
 -- Parts of a list of bytes that stand one behind the other. Assumes nothing.
 use Prim.Native.Nat.{ℕ, suc, ◌+◌, ◌-◌, ◌≤◌, ◌<◌}
-use mathlib.Core.Path.{◌≡◌, refl, sym, ap, ◌∙◌}
-use mathlib.Core.List.{List, [], ◌∷◌, ◌++◌}
+use mathlib.Core.Path.{◌≡◌, sym, ap, ◌∙◌}
+use mathlib.Core.List.{[], ◌∷◌, ◌++◌}
 use native.Mathlib.Omega.{arith}
 use native.Mathlib.Numerals.{add-one}
-use native.Mathlib.Decide.{dec_lt}
-use lib.ListN.{length, get_or, take, drop, length-take, take-append-drop, get_or-eq_default}
-use lib.Seq.{slice, slice-cons, slice_empty, length-slice, take-take, take-add, drop_at, drop-append-le, length-take-le, get_or-take, get_or-drop}
-use Rattle.layout.specs.Bytes.{Bytes, AllBytes}
+use lib.ListN.{length, get_or, take, drop, take-append-drop}
+use lib.Seq.{slice, slice-cons, slice_empty, length-slice, take-take, drop-append-le, length-take-le}
+use Rattle.layout.specs.Bytes.{Bytes}
 
 -- bs stands in s from `at` up to e
 pub record Stands (s : Bytes) (at e : ℕ) (bs : Bytes) : Type 0 where

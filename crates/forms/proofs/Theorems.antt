@@ -1,13 +1,13 @@
 -- The theorems about version 1 forms. Assumes nothing.
 use Prim.Native.Nat.{ℕ, ◌+◌, ◌-◌, ◌≤◌}
 use mathlib.Core.Path.{◌≡◌, refl, sym, ap, ◌∙◌}
-use mathlib.Core.List.{[], ◌++◌, append_assoc}
-use mathlib.Core.Bool.{Bool, true, false}
+use mathlib.Core.List.{[], ◌++◌}
+use mathlib.Core.Bool.{true}
 use mathlib.Core.Logic.{◌↔◌}
 use native.Mathlib.Omega.{arith}
 use lib.ListN.{length, take, drop}
 use lib.Seq.{drop_at}
-use Rattle.layout.specs.Bytes.{Bytes, same_bytes, AllBytes}
+use Rattle.layout.specs.Bytes.{Bytes, AllBytes}
 use Rattle.layout.specs.Parser.{ok}
 use Rattle.layout.specs.Tree.{ColumnType, DataType, Fields, dtype_of, fields_of, count_fields}
 use Rattle.layout.specs.Layout.{type}
@@ -22,7 +22,6 @@ use Rattle.forms.specs.code.Compare.{same_dtype}
 use Rattle.forms.specs.code.Readable.{Readable, labelled}
 use Rattle.forms.specs.Depth.{depth_of}
 use Rattle.forms.proofs.Equal.{form_eq, equal_types-refl, equal_types_eq, equal_fields-refl, equal_fields_eq, same-is-equal}
-use Rattle.layout.proofs.OfBytes.{same_bytes-refl, same_bytes_eq}
 use Rattle.store.proofs.Overlay.{slice-take}
 use Rattle.forms.proofs.Read.{type→, columns→}
 use Rattle.forms.proofs.ReadBack.{type_extent, columns_extent, type-readable, type-stands}

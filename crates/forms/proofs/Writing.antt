@@ -1,7 +1,7 @@
 -- Writing forms: what each function has stored, and what is still to be stored. Assumes nothing.
-use Prim.Native.Nat.{ℕ, suc, ◌+◌, ◌-◌, ◌*◌, ◌^◌, ◌≤◌, ◌<◌}
+use Prim.Native.Nat.{ℕ, ◌+◌, ◌-◌, ◌*◌, ◌^◌, ◌≤◌, ◌<◌}
 use mathlib.Core.Path.{◌≡◌, refl, sym, ap, ◌∙◌}
-use mathlib.Core.List.{List, [], ◌∷◌, ◌++◌}
+use mathlib.Core.List.{[], ◌++◌}
 use native.Mathlib.Omega.{arith}
 use lib.ListN.{length, drop, set, length-drop, length-append}
 use lib.Seq.{slice, length-take-le}
@@ -9,7 +9,7 @@ use Rattle.store.specs.code.Overlay.{overlay}
 use Rattle.store.proofs.Overlay.{overlay-append}
 use Rattle.layout.specs.Bytes.{Bytes, AllBytes}
 use Rattle.layout.specs.Parser.{Res, ok}
-use Rattle.layout.specs.Tree.{ColumnType, Columns, cnil, ccons, dtype_of, fields_of}
+use Rattle.layout.specs.Tree.{ColumnType, Columns, cnil, dtype_of, fields_of}
 use Rattle.layout.specs.Layout.{Head, kind, label, element_label, type, columns}
 use Rattle.layout.specs.code.Answers.{span_at, SpanIn, head_res, label_res, label_at, LabelIn}
 use Rattle.layout.specs.code.Stands.{TypeAt, ColumnsAt}
@@ -22,7 +22,7 @@ use Rattle.layout.specs.declared.columns.Labelled.{Labelled}
 use Rattle.layout.specs.declared.edition.Edition.{Edition}
 use Rattle.layout.specs.declared.columns.Siblings.TheVariants.{Free}
 use Rattle.layout.proofs.Ways.{label_in}
-use Rattle.layout.proofs.View.{label_got, leaf_at_lem, StructAt, struct_at, ListAt, list_at, ArrayAt, array_at, same_type_lem, same-columns, no_column, FirstAt}
+use Rattle.layout.proofs.View.{label_got, leaf_at_lem, StructAt, ListAt, ArrayAt, same-columns, no_column, FirstAt}
 use Rattle.layout.proofs.View.{first-at, first-labelled}
 use Rattle.forms.specs.Form.{text_bytes, kind_form, form, form_fields}
 use Rattle.forms.specs.code.Heads.{head_of, rest_form}
@@ -30,7 +30,7 @@ use Rattle.forms.specs.code.Answers.{end_of}
 use Rattle.forms.proofs.Equal.{form-kind}
 use Rattle.store.proofs.Overlay.{slice-take}
 use Rattle.forms.proofs.Read.{kind→, kind-stands, label-ends, element-ends, type→}
-use Rattle.forms.proofs.ReadBack.{Extent, type_extent}
+use Rattle.forms.proofs.ReadBack.{type_extent}
 use Rattle.forms.proofs.Heads.{HeadAt, head_at}
 
 -- a name or a zone

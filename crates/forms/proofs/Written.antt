@@ -1,18 +1,17 @@
 -- A form that stands in bytes is read as the type it was made of. Assumes nothing.
-use Prim.Native.Nat.{ℕ, zero, suc, ◌+◌, ◌*◌, ◌/◌, ◌%◌, ◌≤◌, ◌<◌, max}
+use Prim.Native.Nat.{ℕ, zero, suc, ◌+◌, ◌*◌, ◌/◌, ◌%◌, ◌≤◌, ◌<◌}
 use mathlib.Core.Path.{◌≡◌, refl, sym, ap, ◌∙◌}
 use mathlib.Core.List.{List, [], ◌∷◌, ◌++◌, append_assoc}
-use mathlib.Core.Bool.{true, not}
+use mathlib.Core.Bool.{true}
 use native.Mathlib.Omega.{arith}
 use lib.ListN.{length, get_or, take, drop, length-append, length-drop}
 use lib.Seq.{drop-drop, get_or-drop, drop-append_seam, take-append_seam}
-use lib.Dec.{leb, ltb, eqb}
 use borrow.Author.Tests.{lt-ltb, le-leb, ne_eqb}
 use Rattle.layout.specs.Bytes.{Bytes}
-use Rattle.layout.specs.Parser.{Res, ok, next, choose, byte, chunk, u16, u32}
-use Rattle.layout.specs.Tree.{LeafType, leaf_type, datetime, decimal, Label, ColumnType, cleaf, cstruct, clist, carray, Columns, cnil, ccons, DataType, leaf}
+use Rattle.layout.specs.Parser.{ok, next, choose, byte, chunk, u16, u32}
+use Rattle.layout.specs.Tree.{LeafType, datetime, decimal, Label, cnil, DataType, leaf}
 use Rattle.layout.specs.Tree.{struct, list, array, Fields, fnil, fcons, count_fields, dtype_of, fields_of}
-use Rattle.layout.specs.Layout.{Head, a_leaf, a_struct, a_list, an_array, text, unit, valid_decimal, decimal_params, plain_leaf, leaf_head, datetime_head, decimal_head}
+use Rattle.layout.specs.Layout.{Head, a_leaf, a_struct, a_list, an_array, text, unit, valid_decimal, decimal_params, leaf_head, datetime_head, decimal_head}
 use Rattle.layout.specs.Layout.{struct_head, array_head, kind_of, kind, field_id, field_mark, label_rest, label, element_label, columns, body, struct_type, list_type}
 use Rattle.layout.specs.Layout.{array_type, type}
 use Rattle.layout.specs.declared.leaf.TimeUnit.{TimeUnit}

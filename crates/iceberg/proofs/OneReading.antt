@@ -274,20 +274,31 @@ module _ (converted : LeafType → LeafType → Value → Value) (M : Metadata) 
     each-one d reads_none reads_none = refl
     each-one d (reads_more r rs) (reads_more s ss) = ap₂ vcons (reads-one d r s) (each-one d rs ss)
 
-  -- what a reading of an array has; its width stands in both types, so a match on two readings would need that twice
-  ArrayView : ColumnType → ColumnType → Value → Differences → Value → Type 0
-  ArrayView (carray w b u) (carray v a t) (varray xs) es z =
-      (ds : Differences) × (ys : Values) × ReadsEach' converted M ds u t xs ys × (es ≡ array_read ∷ ds) × (z ≡ varray ys)
-  ArrayView _ _ _ _ _ = Unit {0}
+  -- a reading of an array, whose width stands in both types: a match on two readings would need that twice
+  data ArrayView : ColumnType → ColumnType → Value → Differences → Value → Type 0 where
+    is_array : {w v : ℕ} {b a : Label} {u t : ColumnType} {xs ys : Values} {ds : Differences} → ReadsEach' converted M ds u t xs ys
+        → ArrayView (carray w b u) (carray v a t) (varray xs) (array_read ∷ ds) (varray ys)
 
-  array_view : {o : Place} {es : Differences} {u t : ColumnType} {x z : Value} → Reads' converted M o es u t x z → ArrayView u t x es z
-  array_view (reads-leaf' p e) = tt
-  array_view reads-null' = tt
-  array_view (reads-struct' h) = tt
-  array_view (reads-list' e i h) = tt
-  array_view (any-element n a h) = tt
-  array_view (array-read h) = (_, _, h, refl, refl)
-  array_view (leaf-converted p n e) = tt
+  abbrev IsArrayType : ColumnType → Type 0
+  IsArrayType (cleaf l) = ⊥
+  IsArrayType (cstruct cs) = ⊥
+  IsArrayType (clist l t) = ⊥
+  IsArrayType (carray w l t) = Unit {0}
+
+  array_view : {o : Place} {es : Differences} {u t : ColumnType} {x z : Value} → Reads' converted M o es u t x z → IsArrayType u → (x ≡ vnull → ⊥)
+      → ArrayView u t x es z
+  array_view (reads-leaf' p e) i n = absurd i
+  array_view reads-null' i n = absurd (n refl)
+  array_view (reads-struct' h) i n = absurd i
+  array_view (reads-list' e j h) i n = absurd i
+  array_view (any-element m a h) i n = absurd i
+  array_view (array-read h) i n = is_array h
+  array_view (leaf-converted p m e) i n = absurd i
+
+  array_one : {w v : ℕ} {b a : Label} {ds es : Differences} {u t : ColumnType} {xs ys : Values} {z : Value}
+      → ((ns : Differences) (zs : Values) → ReadsEach' converted M ns u t xs zs → Same ds ns ys zs)
+      → ArrayView (carray w b u) (carray v a t) (varray xs) es z → Same (array_read ∷ ds) es (varray ys) z
+  array_one f (is_array k) = more _ varray (f _ _ k)
 
   mutual
     reads'-one : {o : Place} {ds es : Differences} {u t : ColumnType} {x y z : Value} → DistinctIds t → Reads' converted M o ds u t x y
@@ -303,9 +314,7 @@ module _ (converted : LeafType → LeafType → Value → Value) (M : Metadata) 
     reads'-one d (reads-list' e i h) (any-element n a g) = absurd (n e)
     reads'-one d (any-element n a h) (reads-list' f j g) = absurd (n f)
     reads'-one d (any-element n a h) (any-element m b g) = more _ vlist (each'-one d h g)
-    reads'-one d (array-read h) g =
-        let (ds, ys, k, e, f) = array_view g in
-        let (p, q) = more _ varray (each'-one d h k) in (p ∙ sym e, q ∙ sym f)
+    reads'-one d (array-read h) g = array_one (λ ns zs k. each'-one d h k) (array_view g tt (λ e. clash (cc)))
     reads'-one d (leaf-converted p n e) (reads-leaf' q f) = true≠false q p
     reads'-one d (leaf-converted p n e) reads-null' = null_present_lem refl n
     reads'-one d (leaf-converted p n e) (leaf-converted q m f) = (refl, sym e ∙ f)

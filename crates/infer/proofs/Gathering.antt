@@ -14,9 +14,9 @@ use Rattle.layout.specs.declared.edition.Edition.{Edition}
 use Rattle.forms.specs.Form.{form_fields}
 use Rattle.forms.specs.Depth.{depth_of_fields}
 use Rattle.forms.proofs.Read.{ok_eq}
-use Rattle.plan.specs.Result.{Result, gives}
+use Rattle.plan.specs.Result.{Result}
 use Rattle.plan.specs.Selector.{Selector, Selectors, snil, scons}
-use Rattle.plan.specs.Check.{column, type_of, types_of}
+use Rattle.plan.specs.Check.{type_of, types_of}
 use Rattle.walk.specs.code.Stands.{SelectorAt, SelectorsAt}
 use Rattle.walk.proofs.View.{FirstAt, first-at, no_selector, selectors_moved}
 use Rattle.direct.specs.code.Scopes.{ScopeAt}

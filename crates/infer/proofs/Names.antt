@@ -21,8 +21,8 @@ use Rattle.forms.proofs.Theorems.{read-readable}
 use Rattle.forms.proofs.Writing.{span-long}
 use Rattle.values.specs.Value.{Value}
 use Rattle.plan.specs.Result.{Result, gives}
-use Rattle.plan.specs.Selector.{Selector, position, constant, rename}
-use Rattle.plan.specs.Check.{Column, column, column_at, within_limits, cast_fits_of, struct_of, list_of, array_of, resulting, check_cast, check_rename, check_struct}
+use Rattle.plan.specs.Selector.{Selector, position, constant}
+use Rattle.plan.specs.Check.{Column, column_at, within_limits, cast_fits_of, struct_of, list_of, array_of, resulting, check_cast, check_rename, check_struct}
 use Rattle.plan.specs.Check.{check_list, check_array, type_of}
 use Rattle.plan.specs.code.Formed.{Formed, f_constant}
 use Rattle.plan.proofs.Results.{never_refused, gives_eq, bind_gives, demand-gives}

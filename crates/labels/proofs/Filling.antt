@@ -1,8 +1,8 @@
 -- The loops that fill a table: what holds after each column. Assumes nothing.
-use Prim.Native.Nat.{ℕ, ◌+◌, ◌-◌, ◌*◌, ◌≤◌, ◌<◌}
+use Prim.Native.Nat.{ℕ, ◌+◌, ◌-◌, ◌≤◌, ◌<◌}
 use mathlib.Core.Path.{◌≡◌, refl, sym, ap, ◌∙◌, subst}
 use mathlib.Core.List.{List, []}
-use mathlib.Core.Bool.{Bool, true, false}
+use mathlib.Core.Bool.{Bool}
 use native.Mathlib.Omega.{arith}
 use native.Mathlib.Decide.{ℕ_discrete}
 use lib.Dec.{eqb}
@@ -11,7 +11,7 @@ use lib.Seq.{get_or-set_same, get_or-set_other}
 use borrow.Author.Tests.{eq-eqb, ne_eqb}
 use Rattle.layout.specs.Bytes.{Bytes}
 use Rattle.layout.specs.Parser.{ok, choose}
-use Rattle.layout.specs.Tree.{Label, ColumnType, Columns, cnil, ccons, count_columns}
+use Rattle.layout.specs.Tree.{Label, ColumnType, Columns, ccons, count_columns}
 use Rattle.layout.specs.Layout.{label, columns as columns_of_of, type}
 use Rattle.layout.specs.code.Answers.{label_res, label_at, moved_of}
 use Rattle.layout.specs.code.Stands.{ColumnsAt}

@@ -1,6 +1,6 @@
 -- The loop that follows a chain: what holds at each of its columns, and what is answered on each way out. Assumes
 -- nothing.
-use Prim.Native.Nat.{ℕ, ◌+◌, ◌-◌, ◌*◌, ◌/◌, ◌%◌, ◌≤◌, ◌<◌}
+use Prim.Native.Nat.{ℕ, ◌+◌, ◌-◌, ◌/◌, ◌%◌, ◌≤◌, ◌<◌}
 use mathlib.Core.Path.{◌≡◌, refl, sym, ap, ◌∙◌, subst}
 use mathlib.Core.List.{List}
 use mathlib.Core.Bool.{Bool, true, false}
@@ -9,9 +9,9 @@ use lib.Dec.{eqb}
 use lib.ListN.{length, get_or}
 use borrow.Author.Tests.{eqb-true}
 use Rattle.layout.specs.Bytes.{Bytes}
-use Rattle.layout.specs.Parser.{refuse, ok}
-use Rattle.layout.specs.Tree.{Label, ColumnType, Columns, ccons, count_columns}
-use Rattle.layout.specs.Layout.{label, type, same_label}
+use Rattle.layout.specs.Parser.{ok}
+use Rattle.layout.specs.Tree.{Label, ColumnType, Columns, ccons}
+use Rattle.layout.specs.Layout.{label, same_label}
 use Rattle.layout.specs.code.Answers.{label_res, label_at, LabelIn}
 use Rattle.layout.specs.code.Seen.{label_hash}
 use Rattle.layout.specs.code.Stands.{ColumnsAt}
@@ -25,10 +25,9 @@ use Rattle.layout.specs.declared.cursor.Cursor.{Cursor}
 use Rattle.layout.specs.declared.find.Found.{Found}
 use Rattle.layout.specs.declared.edition.Edition.{Edition}
 use Rattle.layout.specs.declared.matching.Matching.{Matching}
-use Rattle.layout.proofs.Ways.{clash}
 use Rattle.layout.proofs.View.{FirstAt, first-labelled, same-columns}
 use Rattle.layout.proofs.Finding.{counterpart-first}
-use Rattle.labels.specs.code.LabelTable.{most, none, node, slot_of, first_of, after, Leads, Begins, Places, Chains, Table}
+use Rattle.labels.specs.code.LabelTable.{none, node, slot_of, first_of, after, Leads, Begins, Chains, Table}
 use Rattle.labels.proofs.First.{none_of, first_of_lem, same-slot}
 use Rattle.labels.proofs.After.{Met, met, after_counts, after_next}
 use Rattle.labels.proofs.Filling.{begun, count-is, leads-to}

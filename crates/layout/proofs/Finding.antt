@@ -1,7 +1,7 @@
 -- The scan for a column: what holds after i of n columns, and what is answered on each way out. Assumes nothing.
 use Prim.Native.Nat.{ℕ, zero, suc, ◌+◌, ◌-◌, ◌≤◌, ◌<◌}
 use mathlib.Core.Path.{◌≡◌, refl, sym, ap, ◌∙◌, subst}
-use mathlib.Core.List.{List, [], ◌∷◌, ◌++◌}
+use mathlib.Core.List.{[], ◌∷◌, ◌++◌}
 use mathlib.Core.Bool.{Bool, true, false}
 use native.Mathlib.Omega.{arith}
 use native.Mathlib.Nat.{add-sub_cancel_left}
@@ -10,12 +10,12 @@ use lib.Dec.{eqb}
 use borrow.Author.Tests.{eq-eqb, ne_eqb}
 use Rattle.layout.specs.Bytes.{Bytes, same_bytes}
 use Rattle.layout.specs.Parser.{ok, choose}
-use Rattle.layout.specs.Tree.{Label, ColumnType, Columns, cnil, ccons}
+use Rattle.layout.specs.Tree.{Label, Columns}
 use Rattle.layout.specs.Layout.{label, same_label, columns, type}
 use Rattle.layout.specs.code.Answers.{label_res, label_at, LabelIn, span_at, moved_of}
-use Rattle.layout.specs.code.Stands.{TypeAt, ColumnsAt}
-use Rattle.layout.specs.Find.{Lookup, absent, present, find_from, column_named, column_of_id, column_at, counterpart}
-use Rattle.layout.specs.code.Finding.{match_rule, FoundAt, Finds, wanted_by}
+use Rattle.layout.specs.code.Stands.{ColumnsAt}
+use Rattle.layout.specs.Find.{Lookup, present, find_from, column_named, column_of_id, column_at, counterpart}
+use Rattle.layout.specs.code.Finding.{match_rule, Finds, wanted_by}
 use Rattle.layout.specs.declared.bytes.Span.{Span}
 use Rattle.layout.specs.declared.columns.Position.{Position}
 use Rattle.layout.specs.declared.columns.Label.{Label as LabelSpan}

@@ -4,7 +4,7 @@ use mathlib.Core.Path.{◌≡◌, refl}
 use mathlib.Core.List.{List, [], ◌∷◌, ◌++◌}
 use mathlib.Core.Bool.{Bool, true, false, not}
 use Rattle.layout.specs.Parser.{Res, refuse, ok, next, choose, Parser, test}
-use Rattle.layout.specs.Tree.{Label, ColumnType, ccons, cstruct}
+use Rattle.layout.specs.Tree.{Label, ColumnType}
 use Rattle.layout.specs.Layout.{Head, a_leaf, a_struct, a_list, an_array, label, kind, body, struct_type, list_type, array_type, element_label, columns, type}
 use Rattle.layout.specs.Layout.{repeats_any}
 use Rattle.layout.specs.declared.edition.Edition.{Edition}

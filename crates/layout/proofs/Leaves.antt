@@ -16,7 +16,6 @@ use Rattle.layout.specs.Tree.{LeafType, leaf_type, leaf_of, zone_of, null, boole
 use Rattle.layout.specs.Parser.{ok, choose}
 use Rattle.layout.specs.Layout.{a_leaf, plain_leaf, leaf_head, kind_of, integer_code, float_code}
 use Rattle.layout.specs.declared.leaf.Leaf.{Leaf}
-use Rattle.layout.specs.declared.types.PlainLeaf.{PlainLeaf}
 use Rattle.layout.specs.declared.types.PlainLeaf.TheVariants.{Known, Unknown}
 use Rattle.layout.proofs.Ways.{clash}
 

@@ -1,18 +1,17 @@
 -- Passing over labels, types and columns: what is answered on each way, and what holds after i of n columns. Assumes
 -- nothing.
-use Prim.Native.Nat.{ℕ, zero, suc, ◌+◌, ◌-◌, ◌≤◌, ◌<◌}
+use Prim.Native.Nat.{ℕ, suc, ◌+◌, ◌-◌, ◌≤◌, ◌<◌}
 use mathlib.Core.Path.{◌≡◌, refl, sym, ap, ◌∙◌}
-use mathlib.Core.List.{List, [], ◌∷◌, ◌++◌}
-use mathlib.Core.Bool.{Bool, true, false}
+use mathlib.Core.List.{[], ◌∷◌, ◌++◌}
+use mathlib.Core.Bool.{Bool}
 use native.Mathlib.Omega.{arith}
 use native.Mathlib.Decide.{dec_lt}
 use lib.ListN.{length, get_or}
-use lib.Dec.{ltb, eqb}
-use borrow.Author.Tests.{lt-ltb, le-ltb, eq-eqb, ne_eqb}
+use borrow.Author.Tests.{lt-ltb, le-ltb, ne_eqb}
 use Rattle.layout.specs.Bytes.{Bytes}
 use Rattle.layout.specs.Parser.{Res, refuse, ok, next, choose, byte, u16, u32}
 use Rattle.layout.specs.Tree.{Label, ColumnType, leaf_type, cstruct, clist, carray}
-use Rattle.layout.specs.Layout.{Head, a_leaf, text, unit, required_mark, field_id, field_mark, label_rest, label, element_label, plain_leaf, leaf_head}
+use Rattle.layout.specs.Layout.{a_leaf, text, unit, required_mark, field_id, field_mark, label_rest, label, element_label, plain_leaf, leaf_head}
 use Rattle.layout.specs.Layout.{datetime_head, decimal_params, decimal_head, struct_head, array_head, kind_of, kind, body, struct_type, list_type, array_type}
 use Rattle.layout.specs.Layout.{columns, type}
 use Rattle.layout.specs.code.Pass.{type_rest}

@@ -1,12 +1,12 @@
 -- Some layouts, and what the definitions make of them: computed.
 use mathlib.Core.Path.{◌≡◌, refl}
-use mathlib.Core.Bool.{Bool, true, false}
-use mathlib.Core.List.{List, [], ◌∷◌, ◌++◌, map}
+use mathlib.Core.Bool.{true, false}
+use mathlib.Core.List.{[], ◌∷◌, ◌++◌, map}
 use Prim.Native.Nat.{ℕ}
 use lib.ListN.{replicate, take}
 use Rattle.layout.specs.Bytes.{Bytes, same_bytes}
 use Rattle.layout.specs.Parser.{Res, refuse, ok, next, choose, byte, chunk, u16, u32}
-use Rattle.layout.specs.Tree.{LeafType, string, datetime, Label, cleaf, cstruct, clist, Columns, cnil, ccons, Layout, integer}
+use Rattle.layout.specs.Tree.{string, datetime, Label, cleaf, clist, cnil, ccons, Layout, integer}
 use Rattle.layout.specs.Layout.{text, unit, leaf_head, datetime_head, struct_head, array_head, kind_of, kind, field_id, required_mark, field_mark, label_rest}
 use Rattle.layout.specs.Layout.{label, element_label, repeats_any, columns, struct_type, list_type, array_type, body, type, edition, sized, ended, counted}
 use Rattle.layout.specs.Layout.{layout_from, layout}

@@ -1,14 +1,14 @@
 -- What reading an edition and a whole layout returns on each way.
-use Prim.Native.Nat.{ℕ, zero, suc, ◌+◌, ◌≤◌, ◌<◌}
-use mathlib.Core.Path.{◌≡◌, refl, sym, ap, ◌∙◌, subst}
+use Prim.Native.Nat.{ℕ, zero, suc, ◌≤◌, ◌<◌}
+use mathlib.Core.Path.{◌≡◌, refl, sym, ap, subst}
 use mathlib.Core.List.{List, [], ◌∷◌, ◌++◌}
 use mathlib.Core.Bool.{false, not, and-false}
 use native.Mathlib.Omega.{arith}
-use lib.ListN.{length, take, length-append, length-take}
+use lib.ListN.{length, take, length-take}
 use lib.Dec.{eqb}
 use borrow.Author.Tests.{le-leb, lt-leb, eq-eqb, ne_eqb}
 use Rattle.layout.specs.Parser.{Res, refuse, ok, next, choose, test, Parser, u16}
-use Rattle.layout.specs.Tree.{Label, ColumnType, Columns, cnil, ccons, count_columns}
+use Rattle.layout.specs.Tree.{Label, ColumnType, cnil, ccons, count_columns}
 use Rattle.layout.specs.Bytes.{same_bytes}
 use Rattle.layout.specs.Layout.{label, columns, type, repeats_any, mark, edition, sized, ended, top_rule, inner_rule, counted, layout_from, layout}
 use Rattle.layout.specs.code.Answers.{moved_of, short_res, edition_res, layout_of}

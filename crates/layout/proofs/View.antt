@@ -7,7 +7,7 @@ use mathlib.Core.Bool.{Bool, true, false, not}
 use native.Mathlib.Omega.{arith}
 use Rattle.layout.specs.Bytes.{Bytes}
 use Rattle.layout.specs.Parser.{Res, refuse, ok, next, choose, Parser, test, byte}
-use Rattle.layout.specs.Tree.{LeafType, leaf_type, Label, ColumnType, cleaf, cstruct, clist, carray, Columns, cnil, ccons}
+use Rattle.layout.specs.Tree.{leaf_type, Label, ColumnType, cleaf, cstruct, clist, carray, cnil, ccons}
 use Rattle.layout.specs.Layout.{Head, a_leaf, plain_leaf, kind, body, struct_type, list_type, array_type, label, label as label_of, element_label, columns, type}
 use Rattle.layout.specs.Layout.{repeats_any}
 use Rattle.layout.specs.code.Answers.{step_res, head_res, HeadIn, leaf_at, label_res, label_at, LabelIn, moved_of}

@@ -1,18 +1,18 @@
 -- From the answer of `read_layout` to the columns that stand in the bytes. Assumes nothing.
-use Prim.Native.Nat.{ℕ, zero, suc, ◌+◌, ◌-◌, ◌≤◌}
+use Prim.Native.Nat.{ℕ, ◌+◌, ◌≤◌}
 use mathlib.Core.Path.{◌≡◌, refl, sym, ap, ◌∙◌, subst}
-use mathlib.Core.List.{List, []}
+use mathlib.Core.List.{[]}
 use mathlib.Core.Bool.{Bool, true, false}
 use native.Mathlib.Omega.{arith}
 use lib.ListN.{length, get_or, take}
-use lib.Dec.{ltb, leb}
+use lib.Dec.{ltb}
 use borrow.Author.Tests.{ltb-true, leb-true}
 use Rattle.layout.specs.Bytes.{Bytes, same_bytes}
 use Rattle.layout.specs.Parser.{Res, refuse, ok, choose, byte, u16, test}
 use Rattle.layout.specs.Tree.{Layout, Columns, count_columns}
 use Rattle.layout.specs.Layout.{columns, type, mark, edition, counted, ended, sized, layout_from, layout, top_rule, inner_rule}
 use Rattle.layout.specs.code.Answers.{layout_of}
-use Rattle.layout.specs.code.Stands.{ColumnsAt, LayoutAt}
+use Rattle.layout.specs.code.Stands.{LayoutAt}
 use Rattle.layout.specs.declared.cursor.Cursor.{Cursor}
 use Rattle.layout.specs.declared.columns.Siblings.{Siblings}
 use Rattle.layout.specs.declared.read.LayoutRead.{LayoutRead}

@@ -1,22 +1,21 @@
 -- The nulls of a value, by what its type begins with: which places the table must have. Assumes nothing.
-use Prim.Native.Nat.{ℕ, zero, suc, ◌+◌, ◌-◌, ◌≤◌, ◌<◌}
+use Prim.Native.Nat.{ℕ, suc, ◌+◌, ◌-◌, ◌≤◌, ◌<◌}
 use mathlib.Core.Path.{◌≡◌, refl, sym, ap, ◌∙◌, subst}
-use mathlib.Core.Bool.{Bool, true, false}
+use mathlib.Core.Bool.{false}
 use mathlib.Core.List.{List, [], ◌∷◌}
 use native.Mathlib.Decide.{ℕ_discrete}
 use native.Mathlib.Omega.{arith}
 use Rattle.layout.specs.Bytes.{Bytes}
-use Rattle.layout.specs.Parser.{ok, next, u16}
+use Rattle.layout.specs.Parser.{ok}
 use Rattle.layout.specs.Tree.{Label, Columns, cnil, dtype_of, fields_of}
-use Rattle.layout.specs.Layout.{Head, a_struct, a_list, an_array, kind, label as label_of, element_label, columns as columns_of_of, type as type_of, deepest}
-use Rattle.layout.specs.code.Answers.{head_res, label_res, label_at, moved_of, short_res}
+use Rattle.layout.specs.Layout.{a_struct, a_list, an_array, kind, label as label_of, element_label, columns as columns_of_of, type as type_of, deepest}
+use Rattle.layout.specs.code.Answers.{head_res, label_res, label_at, moved_of}
 use Rattle.layout.specs.code.Stands.{TypeAt}
 use Rattle.layout.specs.declared.columns.Label.{Label as LabelSpan}
 use Rattle.layout.specs.declared.columns.Labelled.{Labelled}
 use Rattle.layout.specs.declared.columns.Siblings.TheVariants.{Free}
 use Rattle.layout.specs.declared.cursor.Cursor.{Cursor}
 use Rattle.layout.specs.declared.cursor.Moved.{Moved}
-use Rattle.layout.specs.declared.cursor.Short.{Short}
 use Rattle.layout.specs.declared.edition.Edition.TheVariants.{One}
 use Rattle.layout.specs.declared.types.Head.{Head as HeadSpan}
 use Rattle.layout.proofs.Ways.{clash, moved_to}
@@ -27,14 +26,14 @@ use Rattle.values.specs.code.Answers.{value_moved}
 use Rattle.values.specs.declared.read.ValueRead.{ValueRead}
 use Rattle.values.proofs.Inside.{value-passed}
 use Rattle.plan.specs.Run.{value_at}
-use Rattle.nodes.specs.code.Raw.{RawAt, RowAt, ElementsAt, ListOf}
-use Rattle.nodes.proofs.Rows.{First, first-column, FirstOf, first_of_lem}
-use Rattle.overflow.specs.code.Some.{any_of, some_part, some_sought}
+use Rattle.nodes.specs.code.Raw.{RawAt, RowAt, ElementsAt}
+use Rattle.nodes.proofs.Rows.{first-column, FirstOf, first_of_lem}
+use Rattle.overflow.specs.code.Some.{some_part, some_sought}
 use Rattle.overflow.specs.code.Seek.{RawIn}
 use Rattle.overflow.specs.declared.scan.Sought.{Sought}
 use Rattle.overflow.proofs.Asking.{raw_of}
 use Rattle.overflow.proofs.Raw.{LeafValue}
-use Rattle.overflow.proofs.Scanning.{Scanning, list-elements, scanning_none, scanning_all, scanning_raw, scanning-more}
+use Rattle.overflow.proofs.Scanning.{Scanning, scanning_none, scanning_all, scanning_raw, scanning-more}
 use Rattle.nullness.specs.code.Nulls.{FieldStart, ElementStart, PartStart, p_field, p_list, p_array, Inside, i_here, i_part, IsNull, NullsOf, EachOf}
 use Rattle.nullness.specs.code.Nulls.{RowOf, Grown}
 use Rattle.nullness.proofs.NullsTable.{nulls_of_more}

@@ -2,7 +2,7 @@
 use Prim.Native.Nat.{ℕ, zero, suc, ◌+◌, ◌≤◌, ◌<◌}
 use mathlib.Core.Path.{◌≡◌, refl, sym, ap, ◌∙◌, subst}
 use mathlib.Core.Bool.{Bool, true, false, not, ◌&&◌}
-use mathlib.Core.List.{List, [], ◌∷◌}
+use mathlib.Core.List.{List, []}
 use native.Mathlib.Omega.{arith}
 use lib.Dec.{eqb, ltb}
 use lib.ListN.{length, get_or}
@@ -12,9 +12,9 @@ use Rattle.layout.specs.Bytes.{Bytes}
 use Rattle.layout.specs.Parser.{ok, next, choose}
 use Rattle.layout.specs.Tree.{leaf_of, Label, ColumnType, cleaf, cstruct, clist, carray, Columns, cnil, ccons}
 use Rattle.layout.specs.Layout.{Head, kind, body, list_type, array_type, element_label, type}
-use Rattle.layout.specs.code.Answers.{head_res, leaf_at, label_res, label_at}
+use Rattle.layout.specs.code.Answers.{head_res, leaf_at, label_res}
 use Rattle.layout.specs.Find.{Lookup, absent, present, find_from, column_at}
-use Rattle.layout.specs.code.Finding.{FoundAt, Finds}
+use Rattle.layout.specs.code.Finding.{Finds}
 use Rattle.layout.specs.code.Stands.{TypeAt, ColumnsAt}
 use Rattle.layout.specs.declared.cursor.Cursor.{Cursor}
 use Rattle.layout.specs.declared.columns.Position.{Position}

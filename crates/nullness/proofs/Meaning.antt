@@ -1,6 +1,6 @@
 -- Where a walk through selectors that passed the check stops, the answer is right. Assumes nothing.
 use Prim.Native.Nat.{ℕ, ◌<◌}
-use mathlib.Core.Path.{◌≡◌, refl, sym, ap, ◌∙◌}
+use mathlib.Core.Path.{◌≡◌, refl, ap}
 use mathlib.Core.Bool.{Bool, true, false, not}
 use mathlib.Core.List.{List, [], ◌∷◌}
 use Rattle.layout.specs.Bytes.{Bytes}
@@ -8,8 +8,7 @@ use Rattle.layout.specs.Tree.{DataType, Fields}
 use Rattle.layout.specs.declared.columns.Position.{Position}
 use Rattle.rules.specs.declared.outcome.CastOption.{CastOption}
 use Rattle.values.specs.Value.{Value}
-use Rattle.values.specs.Fits.{Fits}
-use Rattle.plan.specs.Selector.{Selector, position, constant, cast, rename, struct_mapping, list_mapping, array_mapping, Selectors}
+use Rattle.plan.specs.Selector.{Selector, position, constant, cast}
 use Rattle.plan.specs.Nullness.{Place, Nullnesses, nullness_at, nullness_of}
 use Rattle.plan.specs.Marks.{allowed}
 use Rattle.plan.specs.code.Paths.{place_in}
@@ -21,7 +20,7 @@ use Rattle.walk.specs.code.Moves.{i_cast, i_rename, i_struct, i_list, i_array}
 use Rattle.overflow.specs.code.Some.{some_sought}
 use Rattle.overflow.specs.declared.scan.Sought.{Sought}
 use Rattle.overflow.proofs.Scoped.{Scoped, in_list, in_array}
-use Rattle.nullness.specs.code.Places.{Leads, l_here, fills_at}
+use Rattle.nullness.specs.code.Places.{Leads, fills_at}
 use Rattle.nullness.specs.code.Stops.{scope_of, fills_here, answered, column_stop, input_stop, stop_at, stop_of}
 use Rattle.nullness.specs.declared.stop.Stop.{Stop}
 use Rattle.nullness.specs.declared.stop.Stop.TheVariants.{Passes, Fails, Input}

@@ -1,7 +1,6 @@
 -- The check's 55, computed: a sample for each sentence of document 02, L5, and for its corners. Assumes nothing.
-use Prim.Native.Nat.{ℕ}
 use mathlib.Core.Path.{◌≡◌, refl}
-use mathlib.Core.Bool.{Bool, true, false}
+use mathlib.Core.Bool.{true, false}
 use mathlib.Core.List.{[], ◌∷◌}
 use Rattle.layout.specs.Tree.{null, integer, LeafType, Label, ColumnType, cleaf, cstruct, clist, carray, Columns, cnil, ccons, leaf, struct, list, fnil, fcons}
 use Rattle.layout.specs.Tree.{dtype_of, fields_of}

@@ -2,7 +2,7 @@
 -- there. Assumes nothing.
 use Prim.Native.Nat.{ℕ, zero, suc, ◌≤◌, ◌<◌}
 use mathlib.Core.Path.{◌≡◌, refl, sym, ap, ◌∙◌, subst}
-use mathlib.Core.Bool.{Bool, true}
+use mathlib.Core.Bool.{true}
 use mathlib.Core.List.{List, [], ◌∷◌}
 use native.Mathlib.Omega.{arith}
 use Rattle.layout.specs.Bytes.{Bytes}
@@ -12,9 +12,9 @@ use Rattle.layout.proofs.Ways.{clash}
 use Rattle.rules.specs.declared.outcome.CastOption.{CastOption}
 use Rattle.plan.specs.Result.{gives}
 use Rattle.plan.specs.Selector.{Selector, position, cast, rename, struct_mapping, list_mapping, array_mapping, Selectors, count_selectors}
-use Rattle.plan.specs.Check.{Column, column, column_at, element_of}
+use Rattle.plan.specs.Check.{Column, column_at, element_of}
 use Rattle.plan.specs.Reach.{SelectorAt as Nth, s_here, s_there}
-use Rattle.plan.specs.Nullness.{Nullness, Nullnesses, inside_of, nullness_at, nullness_of}
+use Rattle.plan.specs.Nullness.{Nullnesses, inside_of, nullness_at, nullness_of}
 use Rattle.plan.specs.Marks.{allowed}
 use Rattle.plan.specs.code.Paths.{place_in}
 use Rattle.plan.proofs.Results.{never_refused, gives_eq}

@@ -14,7 +14,6 @@ use Rattle.layout.specs.declared.edition.Edition.TheVariants.{One}
 use Rattle.layout.proofs.Ways.{clash}
 use Rattle.rules.specs.declared.outcome.CastOption.{CastOption}
 use Rattle.values.specs.Value.{Value, vnull, Values}
-use Rattle.values.specs.Reading.{value}
 use Rattle.plan.specs.Selector.{Selector, position, constant, cast, rename, struct_mapping, list_mapping, array_mapping, Selectors}
 use Rattle.plan.specs.Run.{value_at}
 use Rattle.walk.specs.code.State.{Frame, State, state}

@@ -21,7 +21,7 @@ use Rattle.values.specs.Value.{Value, Values}
 use Rattle.values.specs.Encode.{encode_value, encode_values}
 use Rattle.values.specs.Record.{longest}
 use Rattle.plan.specs.Selector.{Selector, Selectors}
-use Rattle.plan.specs.Read.{longest_plan, deepest_selector, selector}
+use Rattle.plan.specs.Read.{longest_plan, deepest_selector}
 use Rattle.plan.specs.Result.{Answer}
 use Rattle.plan.specs.Run.{eval, evals, clean, clean_all_of, spacious, run}
 use Rattle.plan.specs.code.Fits.{FitsOver, over-null, over-number, over-text, over-datetime, over-struct, over-list, over-array, FitsAllOver, over_nil}

@@ -5,8 +5,8 @@ use mathlib.Core.List.{List, [], ◌∷◌}
 use native.Mathlib.Omega.{arith}
 use lib.ListN.{get_or}
 use Rattle.layout.specs.Bytes.{Bytes}
-use Rattle.layout.specs.Tree.{leaf, ColumnType, dtype_of}
-use Rattle.layout.specs.Layout.{kind, type, deepest}
+use Rattle.layout.specs.Tree.{ColumnType, dtype_of}
+use Rattle.layout.specs.Layout.{kind, deepest}
 use Rattle.layout.specs.code.Answers.{head_res}
 use Rattle.layout.specs.code.Stands.{TypeAt}
 use Rattle.layout.specs.declared.cursor.Cursor.{Cursor}

@@ -33,7 +33,7 @@ use Rattle.values.specs.Reading.{value}
 use Rattle.values.specs.Record.{renumber}
 use Rattle.values.specs.code.Answers.{value_moved}
 use Rattle.values.specs.declared.read.ValueRead.{ValueRead}
-use Rattle.plan.specs.Selector.{Selector, position, constant, cast, rename, struct_mapping, list_mapping, array_mapping, Selectors, snil, scons}
+use Rattle.plan.specs.Selector.{Selector, constant, cast, rename, struct_mapping, list_mapping, array_mapping, Selectors, snil, scons}
 use Rattle.plan.specs.Selector.{count_selectors}
 use Rattle.plan.specs.Encode.{plan_mark}
 use Rattle.plan.specs.Read.{data_type, cast_option, known_option, position_rest, constant_rest, cast_rest, rename_rest, struct_rest, list_rest, array_rest}

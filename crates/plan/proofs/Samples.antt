@@ -12,7 +12,6 @@ use Rattle.layout.specs.Layout.{text, leaf_head, kind_of, kind, body, type, ende
 use Rattle.layout.specs.declared.leaf.TimeUnit.TheVariants.{Nanoseconds, Microseconds, Milliseconds}
 use Rattle.layout.specs.declared.leaf.Leaf.TheVariants.{Datetime}
 use Rattle.layout.specs.declared.leaf.Leaf.{Leaf}
-use Rattle.layout.specs.Layout.{unit_code}
 use Rattle.forms.specs.Form.{u16_bytes, text_bytes, carried, leaf_form, kind_form, form, form_fields}
 use Rattle.forms.specs.Depth.{depth_of, depth_of_fields}
 use Rattle.forms.specs.Same.{equal_types, equal_fields}

@@ -1,6 +1,5 @@
 -- "Older columns count as optional" (document 02, L5): where no column of the target is required, 55 is never met.
 -- Assumes nothing.
-use Prim.Native.Nat.{ℕ}
 use mathlib.Core.Path.{◌≡◌, refl}
 use mathlib.Core.Bool.{Bool, true, false}
 use Rattle.layout.specs.Tree.{ColumnType, Columns}

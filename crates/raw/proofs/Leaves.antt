@@ -11,7 +11,7 @@ use Rattle.numeric.specs.Integers.{signed}
 use Rattle.numeric.specs.Decimals.{within_precision}
 use Rattle.layout.specs.Bytes.{Bytes, AllBytes}
 use Rattle.layout.specs.Parser.{refuse, ok, next, choose, byte, chunk}
-use Rattle.layout.specs.Tree.{leaf_of, leaf_type, DataType, leaf, struct, list, array, ColumnType, cstruct, clist, carray, dtype_of}
+use Rattle.layout.specs.Tree.{DataType, leaf, struct, list, array, ColumnType, cstruct, clist, carray, dtype_of}
 use Rattle.layout.specs.code.Answers.{head_res}
 use Rattle.layout.specs.code.Stands.{TypeAt}
 use Rattle.layout.specs.Layout.{Head, kind, type, body, struct_type, list_type, array_type}

@@ -9,7 +9,7 @@ use Rattle.rules.specs.declared.policy.Policy.{Policy}
 use Rattle.rules.specs.declared.params.Params.{Params}
 use Rattle.rules.specs.declared.params.Params.TheVariants.{Identical, SameAsUtc, Different}
 use Rattle.rules.specs.declared.outcome.CastOption.{CastOption}
-use Rattle.rules.specs.code.Choice.{if◌then◌else◌}
+use Rattle.rules.specs.code.Choice.{when◌then◌else◌}
 use Rattle.rules.specs.Policies.{all_on}
 use Rattle.rules.specs.Outcomes.{Verdict}
 use Rattle.rules.specs.Zones.{read_zone, zones_of}
@@ -20,13 +20,13 @@ use Rattle.rules.specs.Pairs.{pair_rule, has_option, cast_passes}
 
 -- zones compared with any rule for unequal ones
 abbrev pub zones_by : (Bytes → Bytes → Bool) → Bytes → Bytes → Params
-zones_by same a b = if same_bytes a b then Identical else if same a b then SameAsUtc else Different
+zones_by same a b = when same_bytes a b then Identical else when same a b then SameAsUtc else Different
 
 -- the rule of a pair with such a comparison
 abbrev pub pair_rule_by : (Bytes → Bytes → Bool) → Policy → LeafType → LeafType → Verdict
 pair_rule_by same p i t =
     chain p
-    (if is_decimal (leaf_of i) && is_decimal (leaf_of t) then decimals_of (decimal_of (leaf_of i)) (decimal_of (leaf_of t)) else zones_by same (zone_of i) (zone_of t))
+    (when is_decimal (leaf_of i) && is_decimal (leaf_of t) then decimals_of (decimal_of (leaf_of i)) (decimal_of (leaf_of t)) else zones_by same (zone_of i) (zone_of t))
     (leaf_of i) (leaf_of t)
 
 abbrev as_utc : Bytes → Bytes → Bool
@@ -43,12 +43,12 @@ unfolding chain
 alike p i t e = rw e
 
 module _ (same : Bytes → Bytes → Bool) (p : Policy) (i t : LeafType) (e : p.datetime_convert_timezone ≡ true) where
-  by_rule_lem : (c : Bool) → chain p (if c then SameAsUtc else Different) (leaf_of i) (leaf_of t) ≡ chain p Different (leaf_of i) (leaf_of t)
+  by_rule_lem : (c : Bool) → chain p (when c then SameAsUtc else Different) (leaf_of i) (leaf_of t) ≡ chain p Different (leaf_of i) (leaf_of t)
   by_rule_lem true = alike p (leaf_of i) (leaf_of t) e
   by_rule_lem false = refl
 
-  by_bytes : (c d : Bool) → chain p (if c then Identical else if d then SameAsUtc else Different) (leaf_of i) (leaf_of t)
-      ≡ chain p (if c then Identical else Different) (leaf_of i) (leaf_of t)
+  by_bytes : (c d : Bool) → chain p (when c then Identical else when d then SameAsUtc else Different) (leaf_of i) (leaf_of t)
+      ≡ chain p (when c then Identical else Different) (leaf_of i) (leaf_of t)
   by_bytes true d = refl
   by_bytes false d = by_rule_lem d
 
@@ -57,8 +57,8 @@ module _ (same : Bytes → Bytes → Bool) (p : Policy) (i t : LeafType) (e : p.
   no_say = go (is_decimal (leaf_of i) && is_decimal (leaf_of t))
     where
       go : (m : Bool)
-          → chain p (if m then decimals_of (decimal_of (leaf_of i)) (decimal_of (leaf_of t)) else zones_by same (zone_of i) (zone_of t)) (leaf_of i) (leaf_of t)
-          ≡ chain p (if m then decimals_of (decimal_of (leaf_of i)) (decimal_of (leaf_of t)) else zones_by (λ a b. false) (zone_of i) (zone_of t)) (leaf_of i) (leaf_of t)
+          → chain p (when m then decimals_of (decimal_of (leaf_of i)) (decimal_of (leaf_of t)) else zones_by same (zone_of i) (zone_of t)) (leaf_of i) (leaf_of t)
+          ≡ chain p (when m then decimals_of (decimal_of (leaf_of i)) (decimal_of (leaf_of t)) else zones_by (λ a b. false) (zone_of i) (zone_of t)) (leaf_of i) (leaf_of t)
       go true = refl
       go false = by_bytes (same_bytes (zone_of i) (zone_of t)) (same (zone_of i) (zone_of t))
 

@@ -6,11 +6,11 @@ use Rattle.layout.specs.Bytes.{Bytes}
 use Rattle.layout.specs.Tree.{LeafType, leaf_type, leaf_of, zone_of}
 use Rattle.layout.specs.declared.leaf.Leaf.{Leaf}
 use Rattle.layout.proofs.Leaves.{leaf_type_of}
-use Rattle.rules.specs.code.Choice.{if◌then◌else◌}
+use Rattle.rules.specs.code.Choice.{when◌then◌else◌}
 use Rattle.rules.specs.Classes.{is_datetime}
 
 -- a date-time has its zone, and no other type has one
-pub zone_of-type : (l : Leaf) (z : Bytes) → zone_of (leaf_type l z) ≡ (if is_datetime l then z else [])
+pub zone_of-type : (l : Leaf) (z : Bytes) → zone_of (leaf_type l z) ≡ (when is_datetime l then z else [])
 zone_of-type Leaf.Null z = refl
 zone_of-type Leaf.Boolean z = refl
 zone_of-type (Leaf.Integer i) z = refl
@@ -22,7 +22,7 @@ zone_of-type Leaf.Binary z = refl
 zone_of-type Leaf.Categorical z = refl
 zone_of-type (Leaf.Decimal d) z = refl
 
-pub zone_of_lem : (a : LeafType) → zone_of a ≡ (if is_datetime (leaf_of a) then zone_of a else [])
+pub zone_of_lem : (a : LeafType) → zone_of a ≡ (when is_datetime (leaf_of a) then zone_of a else [])
 zone_of_lem a = sym (ap zone_of (leaf_type_of a)) ∙ zone_of-type (leaf_of a) (zone_of a)
 
 -- two leaf types of one kind are equal, date-times if they have one zone
@@ -33,5 +33,5 @@ same_leaf_type a b e f =
     go : (c : Bool) → is_datetime (leaf_of a) ≡ c → zone_of a ≡ zone_of b
     go true q = f q
     go false q =
-        zone_of_lem a ∙ ap (λ (c : Bool). if c then zone_of a else []) q
-        ∙ sym (zone_of_lem b ∙ ap (λ (c : Bool). if c then zone_of b else []) (sym (ap is_datetime e) ∙ q))
+        zone_of_lem a ∙ ap (λ (c : Bool). when c then zone_of a else []) q
+        ∙ sym (zone_of_lem b ∙ ap (λ (c : Bool). when c then zone_of b else []) (sym (ap is_datetime e) ∙ q))

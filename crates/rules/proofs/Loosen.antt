@@ -12,7 +12,7 @@ use Rattle.rules.specs.declared.policy.Policy.{Policy}
 use Rattle.rules.specs.declared.params.Params.{Params}
 use Rattle.rules.specs.declared.outcome.CastOption.{CastOption}
 use Rattle.rules.specs.declared.outcome.CastOption.TheVariants.{NonStrict, Overflowing}
-use Rattle.rules.specs.code.Choice.{if◌then◌else◌}
+use Rattle.rules.specs.code.Choice.{when◌then◌else◌}
 use Rattle.rules.specs.Policies.{all_on}
 use Rattle.rules.specs.Allows.{◌⇒◌, Allows}
 use Rattle.rules.specs.Outcomes.{Verdict, untouched, refused, cast, need}
@@ -35,7 +35,7 @@ pub record Keeps (v w : Verdict) : Type 0 where
 same : (v : Verdict) → Keeps v v
 same v = record { kept = λ h. refl }
 
-by_test : (c : Bool) {v w v' w' : Verdict} → Keeps v w → Keeps v' w' → Keeps (if c then v else v') (if c then w else w')
+by_test : (c : Bool) {v w v' w' : Verdict} → Keeps v w → Keeps v' w' → Keeps (when c then v else v') (when c then w else w')
 by_test true k k' = k
 by_test false k k' = k'
 

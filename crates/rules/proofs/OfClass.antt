@@ -4,20 +4,20 @@ use mathlib.Core.Bool.{Bool, true, false, not}
 use Rattle.layout.specs.Tree.{LeafType, leaf_of, zone_of, null, datetime, string, categorical, decimal}
 use Rattle.layout.specs.declared.leaf.Leaf.{Leaf}
 use Rattle.layout.specs.declared.leaf.Decimal.{Decimal}
-use Rattle.rules.specs.code.Choice.{if◌then◌else◌}
+use Rattle.rules.specs.code.Choice.{when◌then◌else◌}
 use Rattle.rules.specs.Classes.{is_datetime, unit, is_null, is_string, is_categorical, is_decimal}
 use Rattle.rules.specs.Params.{decimal_of}
 use Rattle.rules.proofs.EachLeaf.{row, rows, each-leaf, each-pair}
 use Rattle.layout.proofs.Leaves.{type_of-leaf}
 
 -- an equation where a test holds, computed at each kind or pair of kinds
-pub where_test : {A : Type 0} (c : Leaf → Bool) (f g : Leaf → A) → ((d : Decimal) → row d (λ l. if c l then f l else g l) ≡ row d g) → (l : Leaf) → c l
+pub where_test : {A : Type 0} (c : Leaf → Bool) (f g : Leaf → A) → ((d : Decimal) → row d (λ l. when c l then f l else g l) ≡ row d g) → (l : Leaf) → c l
     ≡ true → f l ≡ g l
-where_test c f g e l q = sym (ap (λ (b : Bool). if b then f l else g l) q) ∙ each-leaf (λ l. if c l then f l else g l) g e l
+where_test c f g e l q = sym (ap (λ (b : Bool). when b then f l else g l) q) ∙ each-leaf (λ l. when c l then f l else g l) g e l
 
-pub where_pair : {A : Type 0} (c : Leaf → Leaf → Bool) (f g : Leaf → Leaf → A) → ((d e : Decimal) → rows d e (λ i t. if c i t then f i t else g i t) ≡
+pub where_pair : {A : Type 0} (c : Leaf → Leaf → Bool) (f g : Leaf → Leaf → A) → ((d e : Decimal) → rows d e (λ i t. when c i t then f i t else g i t) ≡
     rows d e g) → (i t : Leaf) → c i t ≡ true → f i t ≡ g i t
-where_pair c f g e i t q = sym (ap (λ (b : Bool). if b then f i t else g i t) q) ∙ each-pair (λ i t. if c i t then f i t else g i t) g e i t
+where_pair c f g e i t q = sym (ap (λ (b : Bool). when b then f i t else g i t) q) ∙ each-pair (λ i t. when c i t then f i t else g i t) g e i t
 
 pub datetime-leaf : (l : Leaf) → is_datetime l ≡ true → l ≡ Leaf.Datetime (unit l)
 datetime-leaf = where_test is_datetime (λ l. l) (λ l. Leaf.Datetime (unit l)) (λ d. refl)

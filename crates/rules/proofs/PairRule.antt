@@ -15,7 +15,7 @@ use Rattle.rules.specs.declared.params.Params.{Params}
 use Rattle.rules.specs.declared.params.Params.TheVariants.{Identical, SameAsUtc, Widened, Different}
 use Rattle.rules.specs.declared.outcome.CastOption.{CastOption}
 use Rattle.rules.specs.declared.outcome.CastOption.TheVariants.{NonStrict}
-use Rattle.rules.specs.code.Choice.{if◌then◌else◌}
+use Rattle.rules.specs.code.Choice.{when◌then◌else◌}
 use Rattle.rules.specs.Outcomes.{Verdict, untouched, refused, cast, need}
 use Rattle.rules.specs.Zones.{read_zone, zones_of}
 use Rattle.rules.specs.Params.{widens, same_decimal, decimals_of, decimal_of, params_of, identical, widened}
@@ -38,7 +38,7 @@ count i t = (is_datetime i && is_datetime t) || (is_decimal i && is_decimal t)
 
 -- the comparison where it counts
 abbrev between : Params → Leaf → Leaf → Params
-between z i t = if count i t then z else Identical
+between z i t = when count i t then z else Identical
 
 counts : (p : Policy) (z : Params) (i t : Leaf) → chain p z i t ≡ chain p (between z i t) i t
 unfolding chain
@@ -47,8 +47,8 @@ counts p z = each-pair (chain p z) (λ i t. chain p (between z i t) i t) (λ d e
 no_params : (p : Policy) (i t : Leaf) (z w : Params) → count i t ≡ false → chain p z i t ≡ chain p w i t
 no_params p i t z w e =
     counts p z i t
-    ∙ ap (λ (c : Bool). chain p (if c then z else Identical) i t) e
-    ∙ sym (counts p w i t ∙ ap (λ (c : Bool). chain p (if c then w else Identical) i t) e)
+    ∙ ap (λ (c : Bool). chain p (when c then z else Identical) i t) e
+    ∙ sym (counts p w i t ∙ ap (λ (c : Bool). chain p (when c then w else Identical) i t) e)
 
 -- the chain at two leaves with zones beside them is the rule of the two leaf types
 pub pair_of_leaves : (p : Policy) (i t : Leaf) (z w : Bytes) → chain p (params_of i z t w) i t ≡ pair_rule p (leaf_type i z) (leaf_type t w)
@@ -60,14 +60,14 @@ pair_of_leaves p i t z w =
     neither e f = ap₂ ◌||◌ e f
 
     zoned : (is_decimal i && is_decimal t) ≡ false → (b : Bool) → is_datetime i ≡ b → (c : Bool) → is_datetime t ≡ c
-        → chain p (zones_of z w) i t ≡ chain p (zones_of (if b then z else []) (if c then w else [])) i t
+        → chain p (zones_of z w) i t ≡ chain p (zones_of (when b then z else []) (when c then w else [])) i t
     zoned k true e true f = refl
     zoned k true e false f = no_params p i t _ _ (neither (ap₂ ◌&&◌ e f) k)
     zoned k false e c f = no_params p i t _ _ (neither (ap (λ (b : Bool). b && is_datetime t) e) k)
 
     by_kind : (k : Bool) → (is_decimal i && is_decimal t) ≡ k
-        → chain p (if k then decimals_of (decimal_of i) (decimal_of t) else zones_of z w) i t
-        ≡ chain p (if k then decimals_of (decimal_of i) (decimal_of t) else zones_of (if is_datetime i then z else []) (if is_datetime t then w else [])) i t
+        → chain p (when k then decimals_of (decimal_of i) (decimal_of t) else zones_of z w) i t
+        ≡ chain p (when k then decimals_of (decimal_of i) (decimal_of t) else zones_of (when is_datetime i then z else []) (when is_datetime t then w else [])) i t
     by_kind true q = refl
     by_kind false q = zoned q (is_datetime i) refl (is_datetime t) refl
 
@@ -100,7 +100,7 @@ identical-decimals : (d e : Decimal) → identical (decimals_of d e) ≡ true �
 unfolding decimals_of
 identical-decimals d e = go (widens d e) (same_decimal d e) refl
   where
-    go : (w s : Bool) → same_decimal d e ≡ s → identical (if w then Widened else if s then Identical else Different) ≡ true → d ≡ e
+    go : (w s : Bool) → same_decimal d e ≡ s → identical (when w then Widened else when s then Identical else Different) ≡ true → d ≡ e
     go true s q h = absurd (true≢false (sym h))
     go false true q h = let (a, b) = both_true (eqb d.scale e.scale) _ q in same_decimal_lem (eqb-true _ _ b) (eqb-true _ _ a)
     go false false q h = absurd (true≢false (sym h))
@@ -109,7 +109,7 @@ pub widened-widens : (d e : Decimal) → widened (decimals_of d e) ≡ true → 
 unfolding decimals_of
 widened-widens d e = go (widens d e) (same_decimal d e)
   where
-    go : (w s : Bool) → widened (if w then Widened else if s then Identical else Different) ≡ true → w ≡ true
+    go : (w s : Bool) → widened (when w then Widened else when s then Identical else Different) ≡ true → w ≡ true
     go true s h = refl
     go false true h = absurd (true≢false (sym h))
     go false false h = absurd (true≢false (sym h))
@@ -128,7 +128,7 @@ identical_eq : (z w : Bytes) → identical (zones_of z w) ≡ true → z ≡ w
 unfolding zones_of
 identical_eq z w = go (same_bytes z w) refl (same_bytes (read_zone z) (read_zone w))
   where
-    go : (c : Bool) → same_bytes z w ≡ c → (d : Bool) → identical (if c then Identical else if d then SameAsUtc else Different) ≡ true → z ≡ w
+    go : (c : Bool) → same_bytes z w ≡ c → (d : Bool) → identical (when c then Identical else when d then SameAsUtc else Different) ≡ true → z ≡ w
     go true q d e = same_bytes_eq z w q
     go false q true e = absurd (true≢false (sym e))
     go false q false e = absurd (true≢false (sym e))
@@ -194,7 +194,7 @@ pub equal-untouched : (p : Policy) (a b : LeafType) → a ≡ b → pair_rule p 
 unfolding pair_rule chain
 equal-untouched p a b e = rw (← e) (whole (same_leaf_type_lem a a) _ (same_type-refl a))
   where
-    whole : (c : Bool) (v : Verdict) → c ≡ true → (if c then untouched else v) ≡ untouched
+    whole : (c : Bool) (v : Verdict) → c ≡ true → (when c then untouched else v) ≡ untouched
     whole true v q = refl
     whole false v q = absurd (true≢false (sym q))
 
@@ -216,4 +216,4 @@ cast_unequal p a b o e q = no-cast (sym (equal-untouched p a b q) ∙ e)
 -- null to any other type
 pub null_rule : (p : Policy) (t : LeafType) → (null ≡ t → ⊥) → pair_rule p null t ≡ need p.null_upcast 15 (cast NonStrict)
 unfolding pair_rule chain
-null_rule p t n = ap (λ (c : Bool). if c then untouched else need p.null_upcast 15 (cast NonStrict)) (same_type_ne null t n)
+null_rule p t n = ap (λ (c : Bool). when c then untouched else need p.null_upcast 15 (cast NonStrict)) (same_type_ne null t n)

@@ -5,7 +5,7 @@ use mathlib.Core.Bool.{Bool, true, false, ◌&&◌, ◌||◌, true≢false}
 use Rattle.layout.proofs.OfBytes.{same_bytes_eq, same_bytes-refl}
 use Rattle.layout.specs.Bytes.{Bytes, same_bytes}
 use Rattle.rules.specs.declared.params.Params.TheVariants.{Identical, SameAsUtc, Different}
-use Rattle.rules.specs.code.Choice.{if◌then◌else◌}
+use Rattle.rules.specs.code.Choice.{when◌then◌else◌}
 use Rattle.rules.specs.Params.{same_as_utc}
 use Rattle.rules.specs.Zones.{utc, etc_utc, text_z, is_utc, read_zone, zones_of}
 
@@ -67,7 +67,7 @@ pub zones_left : (a b : Bytes) → same_bytes a b ≡ false → is_utc a ≡ fal
 unfolding zones_of read_zone
 zones_left a b e f = rw (e, f) (go (is_utc b) refl)
   where
-    go : (c : Bool) → is_utc b ≡ c → Different ≡ (if same_bytes a (if c then utc else b) then SameAsUtc else Different)
+    go : (c : Bool) → is_utc b ≡ c → Different ≡ (when same_bytes a (when c then utc else b) then SameAsUtc else Different)
     go true q = rw (not-text a f)
     go false q = rw e
 

@@ -7,7 +7,7 @@ use Rattle.rules.specs.declared.policy.Policy.{Policy}
 use Rattle.rules.specs.declared.params.Params.{Params}
 use Rattle.rules.specs.declared.outcome.CastOption.{CastOption}
 use Rattle.rules.specs.declared.outcome.CastOption.TheVariants.{NonStrict, Overflowing}
-use Rattle.rules.specs.code.Choice.{if◌then◌else◌}
+use Rattle.rules.specs.code.Choice.{when◌then◌else◌}
 use Rattle.rules.specs.Outcomes.{Verdict, untouched, refused, cast, need}
 use Rattle.rules.specs.Params.{same_as_utc, widened}
 use Rattle.rules.specs.Classes.{is_null, is_integer, is_float, is_datetime, unit, is_categorical, is_string, is_decimal}
@@ -26,7 +26,7 @@ pub data Way (z : Params) (i t : Leaf) : Verdict → Type 0 where
   way_decimals : (is_decimal i && is_decimal t && widened z) ≡ true → Way z i t (cast NonStrict)
 
 module _ {z : Params} {i t : Leaf} where
-  by_test : (c : Bool) {v w : Verdict} → (c ≡ true → Way z i t v) → (c ≡ false → Way z i t w) → Way z i t (if c then v else w)
+  by_test : (c : Bool) {v w : Verdict} → (c ≡ true → Way z i t v) → (c ≡ false → Way z i t w) → Way z i t (when c then v else w)
   by_test true f g = f refl
   by_test false f g = g refl
 

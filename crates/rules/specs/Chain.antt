@@ -8,7 +8,7 @@ use Rattle.rules.specs.declared.policy.Policy.{Policy}
 use Rattle.rules.specs.declared.params.Params.{Params}
 use Rattle.rules.specs.declared.outcome.CastOption.{CastOption}
 use Rattle.rules.specs.declared.outcome.CastOption.TheVariants.{NonStrict, Strict, Overflowing}
-use Rattle.rules.specs.code.Choice.{if◌then◌else◌}
+use Rattle.rules.specs.code.Choice.{when◌then◌else◌}
 use Rattle.rules.specs.Outcomes.{Verdict, untouched, refused, cast, need}
 use Rattle.rules.specs.Params.{identical, same_as_utc, widened}
 use Rattle.layout.specs.Layout.{unit_code}
@@ -37,21 +37,21 @@ unit_allowed p Milliseconds Milliseconds = true
 
 -- Strict if the target unit is finer
 abbrev pub unit_option : TimeUnit → TimeUnit → CastOption
-unit_option i t = if ltb (unit_code t) (unit_code i) then Strict else NonStrict
+unit_option i t = when ltb (unit_code t) (unit_code i) then Strict else NonStrict
 
 -- the chain, from the incoming leaf i to the target t
 unfoldable pub chain : Policy → Params → Leaf → Leaf → Verdict
 chain p z i t =
-    if same_type z i t then untouched
-    else if is_null i then need p.null_upcast 15 (cast NonStrict)
-    else if is_integer i && is_integer t then need p.integer_upcast 16 (need (holds t i) 17 (cast Overflowing))
-    else if is_float i && is_float t && wider t i then need p.float_upcast 18 (cast NonStrict)
-    else if is_float i && is_float t then need p.float_downcast 19 (cast NonStrict)
-    else if is_integer i && is_float t then need p.integer_to_float_cast 20 (cast Overflowing)
-    else if is_datetime i && is_datetime t then
+    when same_type z i t then untouched
+    else when is_null i then need p.null_upcast 15 (cast NonStrict)
+    else when is_integer i && is_integer t then need p.integer_upcast 16 (need (holds t i) 17 (cast Overflowing))
+    else when is_float i && is_float t && wider t i then need p.float_upcast 18 (cast NonStrict)
+    else when is_float i && is_float t then need p.float_downcast 19 (cast NonStrict)
+    else when is_integer i && is_float t then need p.integer_to_float_cast 20 (cast Overflowing)
+    else when is_datetime i && is_datetime t then
     need (p.datetime_convert_timezone || same_as_utc z) 21
     (need (unit_allowed p (unit i) (unit t)) 22
     (cast (unit_option (unit i) (unit t))))
-    else if is_categorical i && is_string t then need p.categorical_to_string 23 (cast NonStrict)
-    else if is_decimal i && is_decimal t && widened z then need p.decimal_widening 51 (cast NonStrict)
+    else when is_categorical i && is_string t then need p.categorical_to_string 23 (cast NonStrict)
+    else when is_decimal i && is_decimal t && widened z then need p.decimal_widening 51 (cast NonStrict)
     else refused 24

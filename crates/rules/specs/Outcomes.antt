@@ -5,7 +5,7 @@ use Rattle.rules.specs.declared.outcome.CastOption.{CastOption}
 use Rattle.rules.specs.declared.outcome.CastOption.TheVariants.{NonStrict, Strict, Overflowing}
 use Rattle.rules.specs.declared.outcome.OptionCode.{OptionCode}
 use Rattle.rules.specs.declared.outcome.OptionCode.TheVariants.{Known, Unknown}
-use Rattle.rules.specs.code.Choice.{if◌then◌else◌}
+use Rattle.rules.specs.code.Choice.{when◌then◌else◌}
 
 -- an outcome in the document's terms
 pub data Verdict : Type 0 where
@@ -15,7 +15,7 @@ pub data Verdict : Type 0 where
 
 -- the policy allows it, or the refusal n
 abbrev pub need : Bool → ℕ → Verdict → Verdict
-need b n v = if b then v else refused n
+need b n v = when b then v else refused n
 
 -- the option's byte in a plan
 abbrev pub option_code : CastOption → ℕ

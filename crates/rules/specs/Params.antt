@@ -6,7 +6,7 @@ use Rattle.layout.specs.declared.leaf.Decimal.{Decimal}
 use Rattle.layout.specs.declared.leaf.Leaf.{Leaf}
 use Rattle.rules.specs.declared.params.Params.{Params}
 use Rattle.rules.specs.declared.params.Params.TheVariants.{Identical, SameAsUtc, Widened, Different}
-use Rattle.rules.specs.code.Choice.{if◌then◌else◌}
+use Rattle.rules.specs.code.Choice.{when◌then◌else◌}
 use Rattle.rules.specs.Zones.{zones_of}
 use Rattle.rules.specs.Classes.{is_decimal}
 
@@ -18,7 +18,7 @@ abbrev pub same_decimal : Decimal → Decimal → Bool
 same_decimal d e = eqb d.scale e.scale && eqb d.precision e.precision
 
 unfoldable pub decimals_of : Decimal → Decimal → Params
-decimals_of d e = if widens d e then Widened else if same_decimal d e then Identical else Different
+decimals_of d e = when widens d e then Widened else when same_decimal d e then Identical else Different
 
 -- a leaf's precision and scale; a leaf that is no decimal has none
 abbrev pub decimal_of : Leaf → Decimal
@@ -35,7 +35,7 @@ decimal_of (Leaf.Decimal d) = d
 
 -- between two decimals these, else the zones
 unfoldable pub params_of : Leaf → Bytes → Leaf → Bytes → Params
-params_of i z t w = if is_decimal i && is_decimal t then decimals_of (decimal_of i) (decimal_of t) else zones_of z w
+params_of i z t w = when is_decimal i && is_decimal t then decimals_of (decimal_of i) (decimal_of t) else zones_of z w
 
 abbrev pub identical : Params → Bool
 identical Identical = true

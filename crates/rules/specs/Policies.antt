@@ -4,16 +4,16 @@ use Rattle.std.specs.Prelude.{ℕ, ◌^◌, ◌/◌, ◌%◌, Bool, true, eqb}
 use Rattle.rules.specs.declared.policy.Policy.{Policy}
 use Rattle.rules.specs.declared.policy.MissingColumnsPolicy.{MissingColumnsPolicy}
 use Rattle.rules.specs.declared.policy.ExtraColumnsPolicy.{ExtraColumnsPolicy}
-use Rattle.rules.specs.code.Choice.{if◌then◌else◌}
+use Rattle.rules.specs.code.Choice.{when◌then◌else◌}
 
 abbrev pub bit : ℕ → ℕ → Bool
 bit k word = eqb (word / 2 ^ k % 2) 1
 
 abbrev pub insert_if : Bool → MissingColumnsPolicy
-insert_if b = if b then MissingColumnsPolicy.Insert else MissingColumnsPolicy.Raise
+insert_if b = when b then MissingColumnsPolicy.Insert else MissingColumnsPolicy.Raise
 
 abbrev pub ignore_if : Bool → ExtraColumnsPolicy
-ignore_if b = if b then ExtraColumnsPolicy.Ignore else ExtraColumnsPolicy.Raise
+ignore_if b = when b then ExtraColumnsPolicy.Ignore else ExtraColumnsPolicy.Raise
 
 abbrev pub policy_of : ℕ → Policy
 policy_of word =

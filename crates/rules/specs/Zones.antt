@@ -4,7 +4,7 @@ use Rattle.std.specs.Prelude.{Bool, false, ◌||◌, List, [], ◌∷◌}
 use Rattle.layout.specs.Bytes.{Bytes, same_bytes}
 use Rattle.rules.specs.declared.params.Params.{Params}
 use Rattle.rules.specs.declared.params.Params.TheVariants.{Identical, SameAsUtc, Different}
-use Rattle.rules.specs.code.Choice.{if◌then◌else◌}
+use Rattle.rules.specs.code.Choice.{when◌then◌else◌}
 
 -- the texts
 abbrev pub utc : Bytes
@@ -30,7 +30,7 @@ is_utc zone = is_among utc_zones zone
 
 -- a zone as it is read where zones are compared
 unfoldable pub read_zone : Bytes → Bytes
-read_zone zone = if is_utc zone then utc else zone
+read_zone zone = when is_utc zone then utc else zone
 
 unfoldable pub zones_of : Bytes → Bytes → Params
-zones_of a b = if same_bytes a b then Identical else if same_bytes (read_zone a) (read_zone b) then SameAsUtc else Different
+zones_of a b = when same_bytes a b then Identical else when same_bytes (read_zone a) (read_zone b) then SameAsUtc else Different

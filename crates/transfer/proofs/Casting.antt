@@ -2,14 +2,14 @@
 use Prim.Native.Nat.{ℕ}
 use mathlib.Core.Path.{◌≡◌, refl, ap, sym, subst, ◌∙◌}
 use Rattle.layout.specs.Bytes.{Bytes}
-use Rattle.layout.specs.Tree.{ColumnType, dtype_of}
+use Rattle.layout.specs.Tree.{ColumnType}
 use Rattle.layout.specs.declared.columns.Position.{Position}
 use Rattle.layout.specs.declared.edition.Edition.{Edition}
 use Rattle.layout.specs.declared.leaf.Leaf.{Leaf}
 use Rattle.values.specs.Value.{Value, Values, vnil, vcons}
 use Rattle.values.specs.Encode.{encode_values}
 use Rattle.plan.specs.Selector.{Selector, position}
-use Rattle.plan.specs.Run.{value_at, map_values, cast_leaf, cast_value, eval, clean_all_of}
+use Rattle.plan.specs.Run.{value_at, map_values, cast_leaf, eval, clean_all_of}
 use Rattle.walk.specs.code.Stands.{SelectorAt}
 use Rattle.walk.specs.code.Parts.{CastAt}
 use Rattle.nodes.specs.code.Raw.{RawAt, ElementsAt, NodeOf}
@@ -17,7 +17,7 @@ use Rattle.nodes.specs.declared.raw.NodeAt.{NodeAt}
 use Rattle.nodes.proofs.Node.{standing}
 use Rattle.layout.specs.declared.cursor.Cursor.{Cursor}
 use Rattle.transfer.specs.code.Reaching.{ReachedIs}
-use Rattle.transfer.specs.code.Casts.{KindAnswer, KindIs, EachAnswer, EachIs, CastsReached}
+use Rattle.transfer.specs.code.Casts.{KindIs, EachAnswer, EachIs, CastsReached}
 use Rattle.transfer.specs.code.Given.{ElementsReached}
 use Rattle.transfer.specs.declared.casts.Each.{Each}
 use Rattle.transfer.specs.declared.leaf.Reached.{Reached}

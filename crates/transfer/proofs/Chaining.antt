@@ -17,7 +17,7 @@ use Rattle.layout.specs.declared.edition.Edition.{Edition}
 use Rattle.layout.specs.declared.edition.Edition.TheVariants.{One}
 use Rattle.values.specs.Value.{Value, Values, vnull, vnumber}
 use Rattle.values.specs.Encode.{encode_value}
-use Rattle.plan.specs.Selector.{Selector, position}
+use Rattle.plan.specs.Selector.{position}
 use Rattle.plan.specs.Convert.{convert}
 use Rattle.plan.specs.Run.{value_at, cast_leaf, cast_value, eval, clean}
 use Rattle.convert.specs.code.Converted.{value_of}

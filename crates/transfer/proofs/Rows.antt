@@ -10,7 +10,7 @@ use Rattle.layout.specs.Bytes.{Bytes}
 use Rattle.layout.specs.Parser.{refuse, ok}
 use Rattle.layout.specs.Tree.{dtype_of}
 use Rattle.layout.specs.code.Answers.{moved_of, text_res, span_at}
-use Rattle.layout.specs.Layout.{text, type}
+use Rattle.layout.specs.Layout.{text}
 use Rattle.layout.specs.code.Stands.{TypeAt}
 use Rattle.layout.specs.declared.bytes.Span.{Span}
 use Rattle.layout.specs.declared.cursor.Cursor.{Cursor}

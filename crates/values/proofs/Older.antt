@@ -1,12 +1,12 @@
 -- L5: "Older columns count as optional": a layout of version 1 or 2 has no required column, so its records are read by
 -- their types alone. Assumes nothing.
 use Prim.Native.Nat.{ℕ, zero, suc}
-use mathlib.Core.Path.{◌≡◌, refl, sym, ap, ◌∙◌}
-use mathlib.Core.Bool.{Bool, true, false}
+use mathlib.Core.Path.{◌≡◌, refl, sym}
+use mathlib.Core.Bool.{Bool, false}
 use mathlib.Core.List.{List, [], ◌∷◌, ◌++◌}
 use Rattle.layout.specs.Bytes.{Bytes}
-use Rattle.layout.specs.Parser.{Res, ok, Parser}
-use Rattle.layout.specs.Tree.{Label, ColumnType, cleaf, cstruct, clist, carray, Columns, cnil, ccons, fields_of, Layout}
+use Rattle.layout.specs.Parser.{ok, Parser}
+use Rattle.layout.specs.Tree.{Label, ColumnType, Columns, fields_of, Layout}
 use Rattle.layout.specs.Layout.{Head, a_leaf, a_struct, a_list, an_array, field_mark, label_rest, label, element_label, columns, struct_type, list_type, array_type, body}
 use Rattle.layout.specs.Layout.{type, top_rule, inner_rule, deepest, counted, layout_from, layout}
 use Rattle.layout.specs.code.Stands.{ColumnsAt}

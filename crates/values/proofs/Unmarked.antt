@@ -7,7 +7,7 @@ use Rattle.layout.specs.Parser.{Res, refuse, ok, Parser, next, choose}
 use Rattle.layout.specs.code.Answers.{moved_of}
 use Rattle.layout.specs.declared.cursor.Moved.{Moved}
 use Rattle.layout.specs.Tree.{LeafType, Label, ColumnType, cleaf, cstruct, clist, carray, Columns, cnil, ccons, dtype_of, fields_of}
-use Rattle.values.specs.Value.{Value, vnull, vcons}
+use Rattle.values.specs.Value.{Value, vnull}
 use Rattle.values.specs.Reading.{presence, nullable, times, leaf_content, struct_content, list_content, array_content, content, values, value}
 use Rattle.values.specs.code.Answers.{value_moved}
 use Rattle.values.specs.declared.read.ValueRead.{ValueRead}

@@ -6,9 +6,8 @@ use native.Mathlib.Omega.{arith}
 use lib.ListN.{get_or}
 use Rattle.layout.specs.Bytes.{Bytes}
 use Rattle.layout.specs.Parser.{ok, next}
-use Rattle.layout.specs.declared.cursor.Cursor.{Cursor}
 use Rattle.layout.proofs.Ways.{clash}
-use Rattle.plan.specs.Selector.{Selector, position, constant, cast, rename, struct_mapping, list_mapping, array_mapping, Selectors, snil, scons, count_selectors}
+use Rattle.plan.specs.Selector.{Selector, position, constant, struct_mapping, Selectors, snil, scons, count_selectors}
 use Rattle.plan.specs.Read.{selector, selectors as selectorsOf, deepest_selector}
 use Rattle.walk.specs.code.Stands.{SelectorAt, SelectorsAt}
 use Rattle.walk.specs.code.State.{Frame, State, state}

@@ -1,9 +1,5 @@
 -- `labels::clear` meets its contract. Assumes nothing.
-use Prim.Native.Nat.{◌-◌, ◌≤◌}
-use mathlib.Core.Path.{◌≡◌, refl}
-use native.Mathlib.Omega.{arith}
-use lib.ListN.{length}
-use Rattle.labels.specs.code.LabelTable.{Cleared}
+use mathlib.Core.Path.{refl}
 use Rattle.labels.proofs.Filling.{cleared-start, cleared_more, cleared-end}
 use borrow.Author.Rules.{rules}
 use Rattle.labels.proofs.clear.Goals as goal

@@ -1,10 +1,7 @@
-use Prim.Native.Nat.{◌-◌, ◌≤◌}
-use mathlib.Core.Path.{◌≡◌, refl}
-use native.Mathlib.Omega.{arith}
+use Prim.Native.Nat.{◌-◌}
+use mathlib.Core.Path.{◌≡◌}
 use lib.ListN.{length}
 use Rattle.labels.specs.code.LabelTable.{Cleared}
-use Rattle.labels.proofs.Filling.{cleared-start, cleared_more, cleared-end}
-use borrow.Author.Rules.{rules}
 use Rattle.labels.proofs.clear.Given as goal
 
 abbrev pub invariant-loop-k : goal.invariant-loop-k

@@ -1,17 +1,10 @@
 -- `labels::counterpart_in` meets its contract. Assumes nothing.
 use Rattle.labels.proofs.Seeking.{behind}
-use Prim.Native.Nat.{ℕ, ◌+◌, ◌-◌}
-use mathlib.Core.Path.{◌≡◌, refl, sym, ◌∙◌}
+use mathlib.Core.Path.{refl, sym, ◌∙◌}
 use native.Mathlib.Omega.{arith}
-use lib.ListN.{length}
 use Rattle.layout.specs.code.Answers.{label_at}
-use Rattle.layout.specs.code.Stands.{ColumnsAt}
-use Rattle.layout.specs.code.Finding.{match_rule}
-use Rattle.layout.specs.declared.matching.Matching.{Matching}
 use Rattle.layout.proofs.Ways.{label_in}
-use Rattle.labels.specs.code.LabelTable.{node, Table}
-use Rattle.labels.proofs.Seeking.{Seeking, seeking_start, seeking_none, inside, seeking_unlabelled, seeking-found, seeking-more, seeking-falls}
-use borrow.Author.Rules.{rules}
+use Rattle.labels.proofs.Seeking.{seeking_start, seeking_none, inside, seeking_unlabelled, seeking-found, seeking-more, seeking-falls}
 use Rattle.labels.proofs.counterpart_in.Goals as goal
 
 pub loop-x-init : goal.loop-x-init

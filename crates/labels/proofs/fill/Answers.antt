@@ -2,9 +2,7 @@
 use Rattle.labels.proofs.Filling.{cleared-from}
 use Rattle.layout.proofs.Ways.{clash}
 use borrow.Author.Tests.{not-false}
-use mathlib.Core.Path.{◌≡◌}
 use native.Mathlib.Omega.{arith}
-use borrow.Author.Rules.{rules}
 use mathlib.Core.Path.{ap}
 use mathlib.Core.Bool.{not}
 use Rattle.labels.proofs.fill.Goals as goal

@@ -5,9 +5,8 @@ use borrow.Author.Tests.{not-false}
 use lib.Seq.{length-take-le}
 use Prim.Native.Nat.{ℕ}
 use mathlib.Core.List.{List}
-use mathlib.Core.Path.{◌≡◌, sym, ◌∙◌, subst}
+use mathlib.Core.Path.{sym, ◌∙◌, subst}
 use native.Mathlib.Omega.{arith}
-use borrow.Author.Rules.{rules}
 use mathlib.Core.Path.{ap}
 use mathlib.Core.Bool.{not}
 use Rattle.labels.proofs.fill_in.Goals as goal
@@ -32,5 +31,8 @@ pub returns : goal.returns
 returns c =
     let e = c.fill.auto.table ∙ length-take-le _
     c.args.arena.now
-    c.if-arena-len.false in record { upper_bound = front_long c.fill.new.table _ e; table = λ h. subst (λ (l : List ℕ). Table c.args.columns.edition c.args.columns.matching c.args.columns.depth c.args.s.now
-          c.args.columns.count c.args.columns.first.at l) (sym (front_is c.fill.new.table _ e)) (c.fill.ensures (not-false _ (ap not c.if-not-fill.false))) }
+    c.if-arena-len.false in record {
+      upper_bound = front_long c.fill.new.table _ e;
+      table = λ h. subst (λ (l : List ℕ). Table c.args.columns.edition c.args.columns.matching c.args.columns.depth c.args.s.now
+          c.args.columns.count c.args.columns.first.at l) (sym (front_is c.fill.new.table _ e)) (c.fill.ensures (not-false _ (ap not c.if-not-fill.false)));
+    }

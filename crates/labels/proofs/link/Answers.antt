@@ -1,16 +1,15 @@
 -- `labels::link` meets its contract. Assumes nothing.
 use Prim.Native.Nat.{◌-◌, ◌+◌, ◌*◌}
-use mathlib.Core.Path.{◌≡◌, refl}
+use mathlib.Core.Path.{refl}
 use native.Mathlib.Omega.{arith}
-use lib.ListN.{length, length-set, get_or}
+use lib.ListN.{length-set, get_or}
 use Rattle.layout.proofs.Ways.{clash, label_in}
-use Rattle.labels.proofs.Filling.{Linking, linking_start, linking_more, linking_end}
+use Rattle.labels.proofs.Filling.{linking_start, linking_more, linking_end}
 use borrow.Author.Rules.{rules}
 use Rattle.labels.proofs.link.Goals as goal
 
 pub loop-i-init : goal.loop-i-init
-loop-i-init c =
-    (
+loop-i-init c = (
   refl,
   linking_start c.wide-i.ensures (omega arith)
       c.requires.noted.cleared,
@@ -29,8 +28,7 @@ bounds-table-h-in-Is c =
     omega arith
 
 pub loop-i-preserved : goal.loop-i-preserved
-loop-i-preserved c =
-    (
+loop-i-preserved c = (
   search rules,
   linking_more (c.loop-i.i - 1)
       c.loop-i.invariant.1

@@ -1,10 +1,6 @@
-use Prim.Native.Nat.{◌-◌, ◌+◌, ◌*◌}
-use mathlib.Core.Path.{◌≡◌, refl}
-use native.Mathlib.Omega.{arith}
-use lib.ListN.{length, length-set, get_or}
-use Rattle.layout.proofs.Ways.{clash, label_in}
-use Rattle.labels.proofs.Filling.{Linking, linking_start, linking_more, linking_end}
-use borrow.Author.Rules.{rules}
+use mathlib.Core.Path.{◌≡◌}
+use lib.ListN.{length}
+use Rattle.labels.proofs.Filling.{Linking}
 use Rattle.labels.proofs.link.Given as goal
 
 abbrev pub invariant-loop-i : goal.invariant-loop-i

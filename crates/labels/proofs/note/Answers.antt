@@ -1,10 +1,8 @@
 -- `labels::note` meets its contract. Assumes nothing.
-use Prim.Native.Nat.{◌-◌}
-use mathlib.Core.Path.{◌≡◌, refl}
+use mathlib.Core.Path.{refl}
 use native.Mathlib.Omega.{arith}
-use lib.ListN.{length}
 use Rattle.layout.proofs.Ways.{clash}
-use Rattle.labels.proofs.Filling.{Noting, noting_start, noting_more, noting_end}
+use Rattle.labels.proofs.Filling.{noting_start, noting_more, noting_end}
 use borrow.Author.Rules.{rules}
 use Rattle.labels.proofs.note.Goals as goal
 
@@ -29,14 +27,13 @@ overflow_add-i c =
     omega (arith, c.loop-i-test.true, c.well_formed.1.0)
 
 pub loop-i-preserved : goal.loop-i-preserved
-loop-i-preserved c =
-    (
-      search rules,
-      noting_more c.loop-i.invariant.1 (omega arith) c.loop-i-test.true
-          c.label.ensures.result_value c.in-Is.is
-          c.pass_type.ensures c.in-To.is
-          (omega arith),
-    )
+loop-i-preserved c = (
+  search rules,
+  noting_more c.loop-i.invariant.1 (omega arith) c.loop-i-test.true
+      c.label.ensures.result_value c.in-Is.is
+      c.pass_type.ensures c.in-To.is
+      (omega arith),
+)
 
 pub returns : goal.returns
 returns c =

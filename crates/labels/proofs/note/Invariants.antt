@@ -1,10 +1,7 @@
 use Prim.Native.Nat.{◌-◌}
-use mathlib.Core.Path.{◌≡◌, refl}
-use native.Mathlib.Omega.{arith}
+use mathlib.Core.Path.{◌≡◌}
 use lib.ListN.{length}
-use Rattle.layout.proofs.Ways.{clash}
-use Rattle.labels.proofs.Filling.{Noting, noting_start, noting_more, noting_end}
-use borrow.Author.Rules.{rules}
+use Rattle.labels.proofs.Filling.{Noting}
 use Rattle.labels.proofs.note.Given as goal
 
 abbrev pub invariant-loop-i : goal.invariant-loop-i

@@ -6,7 +6,7 @@ use Rattle.rules.specs.declared.policy.Policy.{Policy}
 use Rattle.rules.specs.declared.params.Params.{Params}
 use Rattle.rules.specs.declared.outcome.CastOption.{CastOption}
 use Rattle.rules.specs.declared.outcome.CastOption.TheVariants.{NonStrict, Strict, Overflowing}
-use Rattle.rules.specs.code.Choice.{if◌then◌else◌}
+use Rattle.rules.specs.code.Choice.{when◌then◌else◌}
 use Rattle.rules.specs.Outcomes.{Verdict, untouched, refused, cast, need}
 use Rattle.rules.specs.Params.{identical, same_as_utc, widened}
 use Rattle.rules.specs.Kinds.{kind_of}
@@ -23,7 +23,7 @@ datetimes p z flag o = need (p.datetime_convert_timezone || same_as_utc z) 21 (n
 
 -- a decimal pair
 abbrev pub decimals : Bool → Params → Verdict
-decimals flag z = if identical z then untouched else if widened z then need flag 51 (cast NonStrict) else refused 24
+decimals flag z = when identical z then untouched else when widened z then need flag 51 (cast NonStrict) else refused 24
 
 -- what each rule number stands for, from 0; a new rule is added at the end
 abbrev pub rules : Policy → Params → Bool → List Verdict
@@ -35,7 +35,7 @@ rules p z fits =
     ∷ need p.float_upcast 18 (cast NonStrict)
     ∷ need p.float_downcast 19 (cast NonStrict)
     ∷ need p.integer_to_float_cast 20 (cast Overflowing)
-    ∷ (if identical z then untouched else datetimes p z true NonStrict)
+    ∷ (when identical z then untouched else datetimes p z true NonStrict)
     ∷ datetimes p z p.datetime_nanoseconds_downcast NonStrict
     ∷ datetimes p z p.datetime_microseconds_downcast NonStrict
     ∷ datetimes p z p.datetime_microseconds_upcast Strict

@@ -39,4 +39,5 @@ returns-in-53 c =
 
 pub returns-in_default : goal.returns-in_default
 returns-in_default c =
-    place_after _ c.if-number-lt27.false (omega arith) c.in_default.in_default-own.rest.0.0.0.1 c.in_default.in_default-own.rest.0.0.1 c.in_default.in_default-own.rest.0.1 c.in_default.in_default-own.rest.1
+    place_after _ c.if-number-lt27.false (omega arith) c.in_default.in_default-own.rest.0.0.0.1 c.in_default.in_default-own.rest.0.0.1
+    c.in_default.in_default-own.rest.0.1 c.in_default.in_default-own.rest.1

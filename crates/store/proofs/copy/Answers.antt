@@ -1,26 +1,22 @@
 -- `store::copy` meets its contract: what is stored and what is still to be stored are together what was asked for.
 -- Assumes nothing.
-use borrow.Author.Rules.{rules}
 use native.Mathlib.Omega.{arith}
 use mathlib.Core.Path.{◌≡◌, sym, ◌∙◌}
-use Prim.Native.Nat.{◌+◌, ◌-◌, ◌≤◌}
-use lib.ListN.{length}
 use lib.Seq.{slice, slice_empty}
 use Rattle.store.specs.code.Overlay.{overlay}
 use Rattle.store.proofs.Overlay.{overlay-slice}
 use Rattle.store.proofs.copy.Goals as goal
 
 pub loop-i-preserved : goal.loop-i-preserved
-loop-i-preserved c =
-    (
-      omega arith,
-      omega arith,
-      omega arith,
-      c.put.auto.out ∙ c.loop-i.invariant.3,
-      rw c.put.ensures
-          (overlay-slice _ _ _ _ _ c.loop-i-test.true
-          c.requires.1 ∙ c.loop-i.invariant.4),
-    )
+loop-i-preserved c = (
+  omega arith,
+  omega arith,
+  omega arith,
+  c.put.auto.out ∙ c.loop-i.invariant.3,
+  rw c.put.ensures
+      (overlay-slice _ _ _ _ _ c.loop-i-test.true
+      c.requires.1 ∙ c.loop-i.invariant.4),
+)
 
 pub returns : goal.returns
 returns c =

@@ -1,11 +1,8 @@
-use borrow.Author.Rules.{rules}
-use native.Mathlib.Omega.{arith}
-use mathlib.Core.Path.{◌≡◌, sym, ◌∙◌}
+use mathlib.Core.Path.{◌≡◌}
 use Prim.Native.Nat.{◌+◌, ◌-◌, ◌≤◌}
 use lib.ListN.{length}
-use lib.Seq.{slice, slice_empty}
+use lib.Seq.{slice}
 use Rattle.store.specs.code.Overlay.{overlay}
-use Rattle.store.proofs.Overlay.{overlay-slice}
 use Rattle.store.proofs.copy.Given as goal
 
 abbrev pub invariant-loop-i : goal.invariant-loop-i

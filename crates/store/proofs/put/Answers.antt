@@ -1,6 +1,5 @@
 -- `store::put` meets its contract.
 -- Assumes nothing.
-use borrow.Author.Rules.{rules}
 use mathlib.Core.Path.{sym}
 use lib.Seq.{set_out}
 use Rattle.store.proofs.put.Goals as goal

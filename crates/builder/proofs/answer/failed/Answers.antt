@@ -1,5 +1,4 @@
 -- `builder::answer::failed` meets its contract. Assumes nothing.
-use borrow.Author.Rules.{rules}
 use Rattle.builder.proofs.answer.failed.Goals as goal
 
 pub returns-in-Refused : goal.returns-in-Refused

@@ -1,5 +1,4 @@
 -- `builder::answer::is_bare` meets its contract. Assumes nothing.
-use borrow.Author.Rules.{rules}
 use Rattle.builder.proofs.answer.is_bare.Goals as goal
 
 pub returns-in-Bare : goal.returns-in-Bare

@@ -1,5 +1,4 @@
 -- `builder::answer::refused_row` meets its contract. Assumes nothing.
-use borrow.Author.Rules.{rules}
 use Rattle.builder.proofs.answer.refused_row.Goals as goal
 
 pub returns-in-Failed : goal.returns-in-Failed

@@ -1,6 +1,5 @@
 -- `builder::conditions::is_null_incoming` meets its contract. Assumes nothing.
 use Rattle.builder.proofs.Whole.{null_by_name, null_by_number}
-use borrow.Author.Rules.{rules}
 use Rattle.builder.proofs.conditions.is_null_incoming.Goals as goal
 
 pub returns-in-ByName : goal.returns-in-ByName

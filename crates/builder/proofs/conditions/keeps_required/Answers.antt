@@ -1,7 +1,6 @@
 -- `builder::conditions::keeps_required` meets its contract. Assumes nothing.
 use Rattle.layout.specs.code.Answers.{label_at}
 use Rattle.builder.proofs.Whole.{keeps-optional, keeps_unmarked, keeps_typed}
-use borrow.Author.Rules.{rules}
 use mathlib.Core.Path.{ap}
 use mathlib.Core.Bool.{not}
 use Rattle.builder.proofs.conditions.keeps_required.Goals as goal

@@ -1,7 +1,6 @@
 -- `builder::conditions::needs_rename` meets its contract. Assumes nothing.
 use mathlib.Core.Path.{ap}
 use mathlib.Core.Bool.{not}
-use borrow.Author.Rules.{rules}
 use Rattle.builder.proofs.conditions.needs_rename.Goals as goal
 
 pub returns-in-ByNumber : goal.returns-in-ByNumber

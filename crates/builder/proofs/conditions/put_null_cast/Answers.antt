@@ -2,13 +2,15 @@
 use native.Mathlib.Omega.{arith}
 use Rattle.forms.proofs.Writing.{extent}
 use Rattle.builder.proofs.Whole.{null_cast_lem, null-refused}
-use borrow.Author.Rules.{rules}
 use Rattle.builder.proofs.conditions.put_null_cast.Goals as goal
 
 pub put_cast-requires : goal.put_cast-requires
 put_cast-requires c =
-    record { type_at = c.requires.type_at; target_bound = omega
-      (arith, extent c.requires.type_at, c.requires.target_len_bound) }
+    record {
+      type_at = c.requires.type_at;
+      target_bound = omega
+          (arith, extent c.requires.type_at, c.requires.target_len_bound);
+    }
 
 pub returns-then-policy : goal.returns-then-policy
 returns-then-policy c =

@@ -1,6 +1,5 @@
 -- `builder::conditions::same_element` meets its contract. Assumes nothing.
 use Rattle.builder.proofs.Whole.{elements-named, elements_same, elements-first, elements-second}
-use borrow.Author.Rules.{rules}
 use Rattle.builder.proofs.conditions.same_element.Goals as goal
 
 pub returns-then-a-b : goal.returns-then-a-b

@@ -1,6 +1,5 @@
 -- `builder::conditions::struct_fault` meets its contract. Assumes nothing.
 use Rattle.builder.proofs.Whole.{fault_target, fault_incoming, fault-ignored, fault-none, fault-extra}
-use borrow.Author.Rules.{rules}
 use mathlib.Core.Path.{ap}
 use mathlib.Core.Bool.{not}
 use Rattle.builder.proofs.conditions.struct_fault.Goals as goal

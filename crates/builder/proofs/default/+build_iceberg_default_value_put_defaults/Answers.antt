@@ -1,8 +1,8 @@
 -- The proof of the cycle of calls {build_iceberg_default_value, put_defaults}. The measure is 2 for each level left,
 -- and 1 more for the fields. `Defaulting` holds at the head of the loop. Assumes nothing.
 use Rattle.builder.proofs.Missing.{defaulting_none, defaulting_all, defaulting_unlabelled, field, field_room, defaulting-stop, field_fits}
-use Rattle.builder.proofs.Missing.{defaulting-more, Defaulting}
-use Rattle.builder.proofs.Defaults.{none_made, default_as, of_leaf, of_list, of_array, struct_as, struct-after, struct-refused, struct-none, struct-some}
+use Rattle.builder.proofs.Missing.{defaulting-more}
+use Rattle.builder.proofs.Defaults.{none_made, of_leaf, of_list, of_array, struct_as, struct-after, struct-refused, struct-none, struct-some}
 use Rattle.builder.proofs.Defaults.{defaults_room}
 use Rattle.builder.proofs.Putting.{type-after}
 use Rattle.matching.specs.Default.{defaults_of}
@@ -10,25 +10,26 @@ use Rattle.forms.proofs.Writing.{extent}
 use Rattle.layout.proofs.View.{deep, struct_at, never_headless}
 use Rattle.layout.proofs.Ways.{head_in}
 use mathlib.Core.Path.{◌∙◌}
-use borrow.Author.Rules.{rules}
-use Prim.Native.Nat.{ℕ, ◌<◌, ◌+◌, ◌-◌, ◌*◌}
 use native.Mathlib.Omega.{arith}
 use Rattle.defaults.specs.Lookup.{get_default_value}
-use Rattle.defaults.specs.code.Stands.{TableAt}
 use Rattle.builder.proofs.Present.{table-present}
 use Rattle.builder.proofs.default.+build_iceberg_default_value_put_defaults.Goals as goal
 
 pub build_iceberg_default_value-put_leaf_default-requires : goal.build_iceberg_default_value-put_leaf_default-requires
 build_iceberg_default_value-put_leaf_default-requires t c =
-    record { indexed_table_at = c.requires.indexed_table_at; span_in = head_in _ c.head.ensures.head_in c.in-Leaf.is; table_len_bound = (
-          c.requires.table_len_bound.0,
-          omega (
-            arith,
-            type-after c.requires.type_at,
-            extent c.requires.type_at,
-            c.requires.table_len_bound.1,
-          ),
-        ) }
+    record {
+      indexed_table_at = c.requires.indexed_table_at;
+      span_in = head_in _ c.head.ensures.head_in c.in-Leaf.is;
+      table_len_bound = (
+        c.requires.table_len_bound.0,
+        omega (
+          arith,
+          type-after c.requires.type_at,
+          extent c.requires.type_at,
+          c.requires.table_len_bound.1,
+        ),
+      );
+    }
 
 pub build_iceberg_default_value-overflow_sub-depth : goal.build_iceberg_default_value-overflow_sub-depth
 build_iceberg_default_value-overflow_sub-depth t c =

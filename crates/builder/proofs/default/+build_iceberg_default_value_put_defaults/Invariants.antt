@@ -1,19 +1,7 @@
-use Rattle.builder.proofs.Missing.{defaulting_none, defaulting_all, defaulting_unlabelled, field, field_room, defaulting-stop, field_fits}
-use Rattle.builder.proofs.Missing.{defaulting-more, Defaulting}
-use Rattle.builder.proofs.Defaults.{none_made, default_as, of_leaf, of_list, of_array, struct_as, struct-after, struct-refused, struct-none, struct-some}
-use Rattle.builder.proofs.Defaults.{defaults_room}
-use Rattle.builder.proofs.Putting.{type-after}
-use Rattle.matching.specs.Default.{defaults_of}
-use Rattle.forms.proofs.Writing.{extent}
-use Rattle.layout.proofs.View.{deep, struct_at, never_headless}
-use Rattle.layout.proofs.Ways.{head_in}
-use mathlib.Core.Path.{◌∙◌}
-use borrow.Author.Rules.{rules}
-use Prim.Native.Nat.{ℕ, ◌<◌, ◌+◌, ◌-◌, ◌*◌}
-use native.Mathlib.Omega.{arith}
+use Rattle.builder.proofs.Missing.{Defaulting}
+use Prim.Native.Nat.{◌+◌, ◌-◌, ◌*◌}
 use Rattle.defaults.specs.Lookup.{get_default_value}
 use Rattle.defaults.specs.code.Stands.{TableAt}
-use Rattle.builder.proofs.Present.{table-present}
 use Rattle.builder.proofs.default.+build_iceberg_default_value_put_defaults.Given as goal
 
 abbrev pub decreases-build_iceberg_default_value : goal.decreases-build_iceberg_default_value

@@ -2,7 +2,6 @@
 use Rattle.builder.specs.code.Answers.{value_len}
 use mathlib.Core.Path.{ap}
 use native.Mathlib.Omega.{arith}
-use borrow.Author.Rules.{rules}
 use Rattle.builder.proofs.default.constant_made.Goals as goal
 
 pub overflow_add-result : goal.overflow_add-result

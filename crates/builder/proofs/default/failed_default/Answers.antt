@@ -1,5 +1,4 @@
 -- `builder::default::failed_default` meets its contract. Assumes nothing.
-use borrow.Author.Rules.{rules}
 use Rattle.builder.proofs.default.failed_default.Goals as goal
 
 pub returns-in-Refused : goal.returns-in-Refused

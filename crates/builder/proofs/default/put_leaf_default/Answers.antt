@@ -2,7 +2,6 @@
 use Rattle.builder.proofs.Defaults.{none_made, default_refused, default_as, leaf-failed, leaf-nothing, leaf-taken}
 use Rattle.defaults.proofs.Whole.{default_failed, default_none, default_at}
 use Rattle.defaults.specs.Lookup.{get_default_value}
-use borrow.Author.Rules.{rules}
 use Rattle.builder.proofs.default.put_leaf_default.Goals as goal
 
 pub put_taken-requires : goal.put_taken-requires

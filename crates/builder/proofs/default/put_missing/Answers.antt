@@ -8,7 +8,6 @@ use Rattle.layout.specs.code.Answers.{label_at}
 use native.Mathlib.Omega.{arith}
 use mathlib.Core.Path.{◌∙◌}
 use Rattle.builder.proofs.Present.{table-present, default_top}
-use borrow.Author.Rules.{rules}
 use mathlib.Core.Path.{ap}
 use mathlib.Core.Bool.{not}
 use Rattle.builder.proofs.default.put_missing.Goals as goal
@@ -35,16 +34,20 @@ overflow_add-sought c =
 
 pub build_iceberg_default_value-made-requires : goal.build_iceberg_default_value-made-requires
 build_iceberg_default_value-made-requires c =
-    record { type_at = c.requires.type_at; indexed_table_at = c.requires.indexed_table_at; table_len_bound = (
-          c.requires.target_len_bound.1,
-          omega (
-            arith,
-            head-short c.requires.type_at c.args.sought.column.label.name c.requires.span_in.0
-                c.requires.span_in.1 (c.put_constant_head-head.ensures.value c.requires.type_at),
-            extent c.requires.type_at,
-            c.requires.target_len_bound,
-          ),
-        ) }
+    record {
+      type_at = c.requires.type_at;
+      indexed_table_at = c.requires.indexed_table_at;
+      table_len_bound = (
+        c.requires.target_len_bound.1,
+        omega (
+          arith,
+          head-short c.requires.type_at c.args.sought.column.label.name c.requires.span_in.0
+              c.requires.span_in.1 (c.put_constant_head-head.ensures.value c.requires.type_at),
+          extent c.requires.type_at,
+          c.requires.target_len_bound,
+        ),
+      );
+    }
 
 pub returns-then-not-fills_required : goal.returns-then-not-fills_required
 returns-then-not-fills_required c =

@@ -2,7 +2,6 @@
 use Rattle.values.specs.Encode.{encode_value}
 use Rattle.store.specs.code.Overlay.{overlay}
 use mathlib.Core.Path.{refl}
-use borrow.Author.Rules.{rules}
 use Rattle.builder.proofs.default.put_none.Goals as goal
 
 pub returns : goal.returns

@@ -1,7 +1,6 @@
 -- `builder::default::put_taken` meets its contract. Assumes nothing.
 use Rattle.builder.proofs.Defaults.{taken_unlike, taken_stuck, taken-ends, taken_made}
 use native.Mathlib.Omega.{arith}
-use borrow.Author.Rules.{rules}
 use mathlib.Core.Path.{ap}
 use mathlib.Core.Bool.{not}
 use Rattle.builder.proofs.default.put_taken.Goals as goal

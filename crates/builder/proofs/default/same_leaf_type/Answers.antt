@@ -3,7 +3,6 @@ use Rattle.rules.specs.declared.outcome.Outcome.{Outcome}
 use Rattle.rules.specs.code.Answers.{verdict_of}
 use Rattle.builder.proofs.Defaults.{leaves-same, leaves_unlike, is_untouched}
 use mathlib.Core.Path.{ap}
-use borrow.Author.Rules.{rules}
 use Rattle.builder.proofs.default.same_leaf_type.Goals as goal
 
 pub returns-in-Untouched : goal.returns-in-Untouched

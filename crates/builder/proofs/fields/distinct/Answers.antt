@@ -1,6 +1,5 @@
 -- `builder::fields::distinct` meets its contract. Assumes nothing.
 use Rattle.builder.proofs.Names.{distinct-name, distinct-number}
-use borrow.Author.Rules.{rules}
 use Rattle.builder.proofs.fields.distinct.Goals as goal
 
 pub returns-in-ByName : goal.returns-in-ByName

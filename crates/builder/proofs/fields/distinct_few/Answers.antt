@@ -2,8 +2,7 @@
 use mathlib.Core.Path.{refl}
 use Rattle.matching.specs.Build.{distinct_names}
 use Rattle.layout.proofs.Ways.{label_in}
-use Rattle.builder.proofs.Names.{Passing, passing_start, passing_done, passing-unlabelled, column, tail_at, names_stop, names_more}
-use borrow.Author.Rules.{rules}
+use Rattle.builder.proofs.Names.{passing_start, passing_done, passing-unlabelled, column, tail_at, names_stop, names_more}
 use Rattle.builder.proofs.fields.distinct_few.Goals as goal
 
 pub loop-left-init : goal.loop-left-init
@@ -16,9 +15,12 @@ skip_type-e-requires c =
 
 pub name_among-requires : goal.name_among-requires
 name_among-requires c =
-    record { columns_at = tail_at distinct_names c.loop-left.invariant c.loop-left-test.true c.label.ensures.result_value c.in-Is.is
+    record {
+      columns_at = tail_at distinct_names c.loop-left.invariant c.loop-left-test.true c.label.ensures.result_value c.in-Is.is
           (c.skip_type-e.ensures (column distinct_names c.loop-left.invariant c.loop-left-test.true c.label.ensures.result_value
-          c.in-Is.is).head); span_in = label_in _ c.label.ensures.label_in c.in-Is.is }
+          c.in-Is.is).head);
+      span_in = label_in _ c.label.ensures.label_in c.in-Is.is;
+    }
 
 pub returns-then-name_among : goal.returns-then-name_among
 returns-then-name_among c =

@@ -1,8 +1,5 @@
-use mathlib.Core.Path.{refl}
 use Rattle.matching.specs.Build.{distinct_names}
-use Rattle.layout.proofs.Ways.{label_in}
-use Rattle.builder.proofs.Names.{Passing, passing_start, passing_done, passing-unlabelled, column, tail_at, names_stop, names_more}
-use borrow.Author.Rules.{rules}
+use Rattle.builder.proofs.Names.{Passing}
 use Rattle.builder.proofs.fields.distinct_few.Given as goal
 
 abbrev pub invariant-loop-left : goal.invariant-loop-left

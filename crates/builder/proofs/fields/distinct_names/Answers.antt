@@ -2,7 +2,6 @@
 use mathlib.Core.Path.{sym}
 use lib.Seq.{length-take-le}
 use Rattle.builder.proofs.Repeated.{names_read, names_refused}
-use borrow.Author.Rules.{rules}
 use Rattle.builder.proofs.fields.distinct_names.Goals as goal
 
 pub returns-then-n-le8 : goal.returns-then-n-le8

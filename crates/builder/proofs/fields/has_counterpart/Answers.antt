@@ -2,7 +2,6 @@
 use Rattle.layout.specs.code.Answers.{label_at}
 use Rattle.layout.specs.Find.{counterpart}
 use Rattle.builder.proofs.Names.{found_some, found_none}
-use borrow.Author.Rules.{rules}
 use Rattle.builder.proofs.fields.has_counterpart.Goals as goal
 
 pub returns-in-At : goal.returns-in-At

@@ -3,7 +3,6 @@ use Rattle.layout.specs.code.Answers.{span_at}
 use Rattle.layout.specs.Find.{column_named}
 use Rattle.layout.proofs.Finding.{by_name}
 use Rattle.builder.proofs.Names.{found_some, found_none}
-use borrow.Author.Rules.{rules}
 use Rattle.builder.proofs.fields.name_among.Goals as goal
 
 pub returns-in-At : goal.returns-in-At

@@ -1,10 +1,8 @@
 -- `builder::fields::no_extra_in` meets its contract. Assumes nothing.
 use mathlib.Core.Path.{refl}
 use Rattle.matching.specs.Build.{no_extra_of}
-use Rattle.builder.specs.code.Bundles.{FieldsAt}
 use Rattle.layout.proofs.Ways.{label_in}
-use Rattle.builder.proofs.Names.{Passing, passing_start, passing_done, passing-unlabelled, column, fields_stop, fields-more}
-use borrow.Author.Rules.{rules}
+use Rattle.builder.proofs.Names.{passing_start, passing_done, passing-unlabelled, column, fields_stop, fields-more}
 use mathlib.Core.Path.{ap}
 use mathlib.Core.Bool.{not}
 use Rattle.builder.proofs.fields.no_extra_in.Goals as goal

@@ -1,11 +1,6 @@
-use mathlib.Core.Path.{refl}
 use Rattle.matching.specs.Build.{no_extra_of}
 use Rattle.builder.specs.code.Bundles.{FieldsAt}
-use Rattle.layout.proofs.Ways.{label_in}
-use Rattle.builder.proofs.Names.{Passing, passing_start, passing_done, passing-unlabelled, column, fields_stop, fields-more}
-use borrow.Author.Rules.{rules}
-use mathlib.Core.Path.{ap}
-use mathlib.Core.Bool.{not}
+use Rattle.builder.proofs.Names.{Passing}
 use Rattle.builder.proofs.fields.no_extra_in.Given as goal
 
 abbrev pub invariant-loop-left : goal.invariant-loop-left

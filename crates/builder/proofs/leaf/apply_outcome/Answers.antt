@@ -2,7 +2,6 @@
 use native.Mathlib.Omega.{arith}
 use Rattle.forms.proofs.Writing.{extent}
 use Rattle.builder.proofs.Putting.{ruled-bare, ruled-refused, ruled-cast}
-use borrow.Author.Rules.{rules}
 use Rattle.builder.proofs.leaf.apply_outcome.Goals as goal
 
 pub put_position-requires : goal.put_position-requires
@@ -11,12 +10,15 @@ put_position-requires c =
 
 pub put_cast-requires : goal.put_cast-requires
 put_cast-requires c =
-    record { type_at = c.requires.type_at; target_bound = omega (
+    record {
+      type_at = c.requires.type_at;
+      target_bound = omega (
         arith,
         extent
             c.requires.type_at,
         c.requires.target_len_bound,
-      ) }
+      );
+    }
 
 pub returns-in-Untouched : goal.returns-in-Untouched
 returns-in-Untouched c =

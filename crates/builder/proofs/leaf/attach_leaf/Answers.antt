@@ -1,7 +1,6 @@
 -- `builder::leaf::attach_leaf` meets its contract. Assumes nothing.
 use Rattle.matching.specs.Build.{leaf_part}
 use Rattle.builder.proofs.Matching.{part-leaf, part-other, leaf-ruled, leaf-refused, makes-refused, makes_as}
-use borrow.Author.Rules.{rules}
 use Rattle.builder.proofs.leaf.attach_leaf.Goals as goal
 
 pub returns-in_default : goal.returns-in_default
@@ -11,12 +10,11 @@ returns-in_default c =
     c.args.types.depth P) c.in_default.is))
 
 pub leaf_rule-outcome-requires : goal.leaf_rule-outcome-requires
-leaf_rule-outcome-requires c =
-    (
-      (part-leaf c.args.incoming.now (leaf_part c.requires.types_at.0.tree) (c.leaf_part.ensures c.args.build.incoming c.args.types.depth
-          c.requires.types_at.0) c.in-Is.is).1,
-      c.requires.span_in.0,
-    )
+leaf_rule-outcome-requires c = (
+  (part-leaf c.args.incoming.now (leaf_part c.requires.types_at.0.tree) (c.leaf_part.ensures c.args.build.incoming c.args.types.depth
+      c.requires.types_at.0) c.in-Is.is).1,
+  c.requires.span_in.0,
+)
 
 pub returns : goal.returns
 returns c =

@@ -1,6 +1,5 @@
 -- `builder::leaf::leaf_rule` meets its contract. Assumes nothing.
 use Rattle.builder.proofs.Matching.{rule_spans}
-use borrow.Author.Rules.{rules}
 use Rattle.builder.proofs.leaf.leaf_rule.Goals as goal
 
 pub returns : goal.returns

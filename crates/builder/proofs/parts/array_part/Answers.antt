@@ -1,6 +1,5 @@
 -- `builder::parts::array_part` meets its contract. Assumes nothing.
 use Rattle.builder.proofs.Taking.{array-list, array-is, array-width, array-none}
-use borrow.Author.Rules.{rules}
 use Rattle.builder.proofs.parts.array_part.Goals as goal
 
 pub returns-then-x-w : goal.returns-then-x-w

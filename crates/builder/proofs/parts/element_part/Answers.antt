@@ -1,7 +1,6 @@
 -- `builder::parts::element_part` meets its contract. Assumes nothing.
 use Rattle.layout.proofs.View.{never_opened}
 use Rattle.builder.proofs.Matching.{leaf-inside, struct-inside, list-taken, array-taken}
-use borrow.Author.Rules.{rules}
 use Rattle.builder.proofs.parts.element_part.Goals as goal
 
 pub returns-in-Leaf : goal.returns-in-Leaf

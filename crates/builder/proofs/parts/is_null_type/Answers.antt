@@ -1,7 +1,6 @@
 -- `builder::parts::is_null_type` meets its contract. Assumes nothing.
 use Rattle.matching.specs.Build.{leaf_part}
 use Rattle.builder.proofs.Matching.{null-part, part-other, null-other}
-use borrow.Author.Rules.{rules}
 use Rattle.builder.proofs.parts.is_null_type.Goals as goal
 
 pub returns-in-Is : goal.returns-in-Is

@@ -1,6 +1,5 @@
 -- `builder::parts::list_part` meets its contract. Assumes nothing.
 use Rattle.builder.proofs.Taking.{list-is, list-array, list-none}
-use borrow.Author.Rules.{rules}
 use Rattle.builder.proofs.parts.list_part.Goals as goal
 
 pub returns-in-List : goal.returns-in-List

@@ -3,7 +3,6 @@ use mathlib.Core.Path.{refl, sym, ap, ◌∙◌}
 use Rattle.layout.specs.code.Answers.{head_res}
 use Rattle.layout.proofs.View.{never_headless}
 use Rattle.builder.proofs.Matching.{struct_mismatch, struct-taken}
-use borrow.Author.Rules.{rules}
 use Rattle.builder.proofs.parts.struct_part.Goals as goal
 
 pub returns-in-Leaf : goal.returns-in-Leaf

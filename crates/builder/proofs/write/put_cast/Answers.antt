@@ -2,7 +2,6 @@
 use native.Mathlib.Omega.{arith}
 use Rattle.forms.proofs.Writing.{extent}
 use Rattle.builder.proofs.Putting.{cast-put, cast-long}
-use borrow.Author.Rules.{rules}
 use Rattle.builder.proofs.write.put_cast.Goals as goal
 
 pub overflow_add-k-3 : goal.overflow_add-k-3
@@ -27,5 +26,8 @@ overflow_add-result c =
 
 pub returns : goal.returns
 returns c =
-    record { value = λ Q. cast-long _ _ _ (c.write_form-w.ensures.len_value Q).0; out_after = λ Q. cast-put _ _ _ _ _ c.put_head.ensures (c.write_form-w.ensures.len_value Q).0
-          (c.write_form-w.ensures.out_after Q) c.option_code.ensures c.put.ensures }
+    record {
+      value = λ Q. cast-long _ _ _ (c.write_form-w.ensures.len_value Q).0;
+      out_after = λ Q. cast-put _ _ _ _ _ c.put_head.ensures (c.write_form-w.ensures.len_value Q).0
+          (c.write_form-w.ensures.out_after Q) c.option_code.ensures c.put.ensures;
+    }

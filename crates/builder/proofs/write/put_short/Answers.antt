@@ -1,6 +1,5 @@
 -- `builder::write::put_short` meets its contract. Assumes nothing.
 use Rattle.builder.proofs.Putting.{short-put}
-use borrow.Author.Rules.{rules}
 use Rattle.builder.proofs.write.put_short.Goals as goal
 
 pub returns : goal.returns

@@ -1,6 +1,5 @@
 -- `calls::build::build_by_number` meets its contract. Assumes nothing.
 use native.Mathlib.Omega.{arith}
-use borrow.Author.Rules.{rules}
 use Rattle.calls.proofs.build.build_by_number.Goals as goal
 
 pub build_numbered-requires : goal.build_numbered-requires

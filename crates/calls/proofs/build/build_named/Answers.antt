@@ -1,7 +1,6 @@
 -- `calls::build::build_named` meets its contract. Assumes nothing.
 use Rattle.calls.proofs.Plans.{both_at, both-refused, no_table, by_name_refused, by_name_built, plan_as, plan-kept}
 use native.Mathlib.Omega.{arith}
-use borrow.Author.Rules.{rules}
 use Rattle.calls.proofs.build.build_named.Goals as goal
 
 pub build_plan-requires : goal.build_plan-requires

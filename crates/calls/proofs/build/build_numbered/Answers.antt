@@ -2,7 +2,6 @@
 use Rattle.calls.proofs.Plans.{both_at, both-refused, by_number-refused, by_number_untabled, by_number-built, plan_as, plan-kept}
 use Rattle.defaults.proofs.Whole.{table_at, table-refused, table-small}
 use Rattle.calls.proofs.Plans.{indexed-read}
-use borrow.Author.Rules.{rules}
 use Rattle.calls.proofs.build.build_numbered.Goals as goal
 
 pub build_plan-requires : goal.build_plan-requires

@@ -1,15 +1,11 @@
 use lib.ListN.{length, take}
-use mathlib.Core.Path.{◌≡◌, refl, ◌∙◌}
-use native.Mathlib.Omega.{arith}
+use mathlib.Core.Path.{◌≡◌}
 use Prim.Native.Nat.{◌-◌}
 use Rattle.layout.specs.Limits.{deepest}
 use Rattle.layout.specs.code.Stands.{ColumnsAt}
 use Rattle.defaults.specs.Lookup.{get_default_value}
 use Rattle.defaults.specs.code.Stands.{TableAt}
-use Rattle.matcher.proofs.Remaining.{table_still}
-use Rattle.calls.proofs.Building.{Building, building-none, building-all, building_unlabelled, column, column_after, column_name, column-room}
-use Rattle.calls.proofs.Building.{column-made, building-stop, column_fits, building-more}
-use borrow.Author.Rules.{rules}
+use Rattle.calls.proofs.Building.{Building}
 use Rattle.calls.proofs.columns.build_columns.Given as goal
 
 abbrev pub invariant-loop-i : goal.invariant-loop-i

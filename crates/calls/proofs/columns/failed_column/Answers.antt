@@ -1,5 +1,4 @@
 -- `calls::columns::failed_column` meets its contract. Assumes nothing.
-use borrow.Author.Rules.{rules}
 use Rattle.calls.proofs.columns.failed_column.Goals as goal
 
 pub returns-in-Refused : goal.returns-in-Refused

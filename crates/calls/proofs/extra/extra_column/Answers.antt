@@ -3,7 +3,6 @@ use mathlib.Core.Path.{refl, sym}
 use lib.Seq.{length-take-le}
 use Rattle.labels.proofs.Arena.{table_kept}
 use Rattle.calls.proofs.Seeking.{ignoring, raising}
-use borrow.Author.Rules.{rules}
 use Rattle.calls.proofs.extra.extra_column.Goals as goal
 
 pub slice_bounds-first_extra-end-in-Raise : goal.slice_bounds-first_extra-end-in-Raise

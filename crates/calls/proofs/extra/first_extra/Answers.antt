@@ -1,11 +1,7 @@
 -- `calls::extra::first_extra` meets its contract. Assumes nothing.
-use Prim.Native.Nat.{◌-◌}
 use native.Mathlib.Omega.{arith}
-use Rattle.layout.specs.Limits.{deepest}
-use Rattle.builder.specs.code.Bundles.{FieldsAt}
 use Rattle.layout.proofs.Ways.{label_in}
-use Rattle.calls.proofs.Seeking.{absent-is, Seeking, seeking_none, seeking_all, seeking_unlabelled, column, seeking-stop, seeking-more}
-use borrow.Author.Rules.{rules}
+use Rattle.calls.proofs.Seeking.{absent-is, seeking_none, seeking_all, seeking_unlabelled, column, seeking-stop, seeking-more}
 use mathlib.Core.Path.{ap}
 use mathlib.Core.Bool.{not}
 use Rattle.calls.proofs.extra.first_extra.Goals as goal

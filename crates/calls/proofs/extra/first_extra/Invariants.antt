@@ -1,12 +1,7 @@
 use Prim.Native.Nat.{◌-◌}
-use native.Mathlib.Omega.{arith}
 use Rattle.layout.specs.Limits.{deepest}
 use Rattle.builder.specs.code.Bundles.{FieldsAt}
-use Rattle.layout.proofs.Ways.{label_in}
-use Rattle.calls.proofs.Seeking.{absent-is, Seeking, seeking_none, seeking_all, seeking_unlabelled, column, seeking-stop, seeking-more}
-use borrow.Author.Rules.{rules}
-use mathlib.Core.Path.{ap}
-use mathlib.Core.Bool.{not}
+use Rattle.calls.proofs.Seeking.{Seeking}
 use Rattle.calls.proofs.extra.first_extra.Given as goal
 
 abbrev pub invariant-loop-i : goal.invariant-loop-i

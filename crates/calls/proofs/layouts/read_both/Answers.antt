@@ -1,7 +1,6 @@
 -- `calls::layouts::read_both` meets its contract. Assumes nothing.
 use Rattle.layout.proofs.Whole.{layout-at, layout-refused}
 use Rattle.calls.proofs.Plans.{first-refused, second-refused, both_read, both_differ}
-use borrow.Author.Rules.{rules}
 use Rattle.calls.proofs.layouts.read_both.Goals as goal
 
 pub returns-then-both : goal.returns-then-both

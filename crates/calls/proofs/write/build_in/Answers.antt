@@ -4,7 +4,6 @@ use Rattle.matching.specs.Build.{build_from}
 use Rattle.defaults.specs.Lookup.{get_default_value}
 use mathlib.Core.Path.{◌∙◌}
 use native.Mathlib.Omega.{arith}
-use borrow.Author.Rules.{rules}
 use Rattle.calls.proofs.write.build_in.Goals as goal
 
 pub build_columns-requires : goal.build_columns-requires

@@ -1,7 +1,6 @@
 -- `calls::write::build_large` meets its contract. Assumes nothing.
 use Rattle.calls.proofs.Plans.{attempt_answered, attempt_short, plan-long}
 use native.Mathlib.Omega.{arith}
-use borrow.Author.Rules.{rules}
 use Rattle.calls.proofs.write.build_large.Goals as goal
 
 pub build_in-requires : goal.build_in-requires

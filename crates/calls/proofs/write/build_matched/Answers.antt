@@ -2,10 +2,7 @@
 use Rattle.calls.proofs.Plans.{attempt_answered, attempt_short, plan_again}
 use Rattle.matching.specs.Build.{build_from}
 use Rattle.defaults.specs.Lookup.{get_default_value}
-use mathlib.Core.Logic.{⊎_elim}
-use mathlib.Core.Path.{◌≡◌, ap, ◌∙◌}
-use lib.ListN.{length}
-use borrow.Author.Rules.{rules}
+use mathlib.Core.Path.{◌≡◌, ◌∙◌}
 use Rattle.calls.proofs.write.build_matched.Goals as goal
 use Rattle.calls.proofs.write.build_matched.Goals.{then-target-le1024+in_default, else-target-le1024}
 
@@ -13,10 +10,10 @@ use Rattle.calls.proofs.write.build_matched.Goals.{then-target-le1024+in_default
 kept : (c : goal.After-slice_known-4-1) → c.if-target-le1024.plan ≡ c.args.plan.now
 kept c =
     elim c.if-target-le1024.branch [
-      then-target-le1024+in_default w ↦
-        let (l, q) = attempt_short _ _ _ w.build_small.result _ (w.build_small.ensures c.requires.indexed_table_at.0 c.requires.both_in.0 c.requires.both_in.1.0) w.in_default.is in
-        w.plan-is ∙ q
-    | else-target-le1024 w ↦ w.plan-is
+      | then-target-le1024+in_default w ↦
+          let (l, q) = attempt_short _ _ _ w.build_small.result _ (w.build_small.ensures c.requires.indexed_table_at.0 c.requires.both_in.0 c.requires.both_in.1.0) w.in_default.is in
+          w.plan-is ∙ q
+      | else-target-le1024 w ↦ w.plan-is
     ]
 
 pub returns-in-Answer : goal.returns-in-Answer

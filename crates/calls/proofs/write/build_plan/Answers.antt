@@ -2,7 +2,6 @@
 use Rattle.calls.proofs.Plans.{build_extra, build-plain, answered-refused, answered_as, plan-kept, plan_as}
 use Rattle.defaults.specs.Lookup.{get_default_value}
 use lib.ListN.{length}
-use borrow.Author.Rules.{rules}
 use Rattle.calls.proofs.write.build_plan.Goals as goal
 
 pub returns-in-At : goal.returns-in-At

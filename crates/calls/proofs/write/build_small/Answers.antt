@@ -1,6 +1,5 @@
 -- `calls::write::build_small` meets its contract. Assumes nothing.
 use native.Mathlib.Omega.{arith}
-use borrow.Author.Rules.{rules}
 use Rattle.calls.proofs.write.build_small.Goals as goal
 
 pub build_in-requires : goal.build_in-requires

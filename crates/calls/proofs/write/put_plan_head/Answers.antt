@@ -1,7 +1,6 @@
 -- `calls::write::put_plan_head` meets its contract. Assumes nothing.
 use Rattle.forms.specs.Form.{u16_bytes}
 use Rattle.store.specs.code.Overlay.{overlay}
-use borrow.Author.Rules.{rules}
 use Rattle.calls.proofs.write.put_plan_head.Goals as goal
 
 pub returns : goal.returns

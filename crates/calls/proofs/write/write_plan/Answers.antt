@@ -2,7 +2,6 @@
 use Rattle.calls.proofs.Plans.{past-buffer, within_both, plan-kept, plan-copied}
 use native.Mathlib.Omega.{arith}
 use mathlib.Core.Path.{refl}
-use borrow.Author.Rules.{rules}
 use Rattle.calls.proofs.write.write_plan.Goals as goal
 
 pub returns-then-plan-len : goal.returns-then-plan-len

@@ -1,7 +1,6 @@
 -- `checker::cast::cast_fits` meets its contract. Assumes nothing.
 use Rattle.checker.proofs.Casting.{leaf-inside, leaf_fits, nested_fits}
 use mathlib.Core.Path.{refl}
-use borrow.Author.Rules.{rules}
 use Rattle.checker.proofs.cast.cast_fits.Goals as goal
 
 pub leaf_fits-requires : goal.leaf_fits-requires

@@ -1,13 +1,10 @@
 -- `checker::each::check_each` meets its contract. Assumes nothing.
-use Rattle.checker.proofs.Topping.{Going, going_start, going-asks, going-columns, going_at, going-fits, going_more, going-refused}
+use Rattle.checker.proofs.Topping.{going_start, going-asks, going-columns, going_at, going-fits, going_more, going-refused}
 use Rattle.checker.proofs.Topping.{going-differs, going-short, going-passed}
 use Rattle.checker.proofs.Tabled.{table-columns}
-use mathlib.Core.Logic.{⊎_elim}
 use mathlib.Core.Path.{ap}
-use borrow.Author.Rules.{rules}
 use borrow.Author.Tests.{not-true, not-false}
 use native.Mathlib.Omega.{arith}
-use Prim.Native.Nat.{◌-◌}
 use Rattle.layout.specs.declared.cursor.Cursor.{Cursor}
 use mathlib.Core.Bool.{not}
 use Rattle.checker.proofs.each.check_each.Goals as goal
@@ -27,13 +24,21 @@ slice_bounds-fit_first-start c =
 
 pub fit_first-requires : goal.fit_first-requires
 fit_first-requires c =
-    record { top_at = going-asks c.loop-k.invariant c.loop-k-test.true; columns_at = going-columns c.loop-k.invariant c.loop-k-test.true
-            c.left_of-left.ensures; indexed = table-columns c.requires.tables }
+    record {
+      top_at = going-asks c.loop-k.invariant c.loop-k-test.true;
+      columns_at = going-columns c.loop-k.invariant c.loop-k-test.true
+          c.left_of-left.ensures;
+      indexed = table-columns c.requires.tables;
+    }
 
 pub check_top-requires : goal.check_top-requires
 check_top-requires c =
-    record { tables = c.requires.tables; top_at = going-asks c.loop-k.invariant c.loop-k-test.true; columns_at = going-columns c.loop-k.invariant c.loop-k-test.true
-            c.left_of-left.ensures }
+    record {
+      tables = c.requires.tables;
+      top_at = going-asks c.loop-k.invariant c.loop-k-test.true;
+      columns_at = going-columns c.loop-k.invariant c.loop-k-test.true
+          c.left_of-left.ensures;
+    }
 
 pub returns-in-Refused : goal.returns-in-Refused
 returns-in-Refused c =
@@ -57,14 +62,14 @@ loop-k-smaller c =
 pub loop-k-preserved : goal.loop-k-preserved
 loop-k-preserved c =
     elim c.match-fit_first.branch [
-      in-At w ↦
-        going_at (going-fits c.loop-k.invariant c.loop-k-test.true c.left_of-left.ensures c.fit_first.ensures w.in-At.is)
-        {d = c.match-fit_first.d} {b = c.match-fit_first.b} {s = c.match-fit_first.same}
-        (ap (λ (i : Cursor). i.at) w.d-is) (ap (λ (i : Cursor). i.at) w.b-is) w.same-is
-    | in-Unknown+in-Passed w ↦
-        going_at (going_more c.loop-k.invariant c.loop-k-test.true c.left_of-left.ensures w.check_top.ensures w.in-Passed.is)
-        {d = c.match-fit_first.d} {b = c.match-fit_first.b} {s = c.match-fit_first.same}
-        (ap (λ (i : Cursor). i.at) w.d-is) (ap (λ (i : Cursor). i.at) w.b-is) w.same-is
+      | in-At w ↦
+          going_at (going-fits c.loop-k.invariant c.loop-k-test.true c.left_of-left.ensures c.fit_first.ensures w.in-At.is)
+          {d = c.match-fit_first.d} {b = c.match-fit_first.b} {s = c.match-fit_first.same}
+          (ap (λ (i : Cursor). i.at) w.d-is) (ap (λ (i : Cursor). i.at) w.b-is) w.same-is
+      | in-Unknown+in-Passed w ↦
+          going_at (going_more c.loop-k.invariant c.loop-k-test.true c.left_of-left.ensures w.check_top.ensures w.in-Passed.is)
+          {d = c.match-fit_first.d} {b = c.match-fit_first.b} {s = c.match-fit_first.same}
+          (ap (λ (i : Cursor). i.at) w.d-is) (ap (λ (i : Cursor). i.at) w.b-is) w.same-is
     ]
 
 pub returns-then-not-same : goal.returns-then-not-same

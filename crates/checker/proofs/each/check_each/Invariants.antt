@@ -1,14 +1,5 @@
-use Rattle.checker.proofs.Topping.{Going, going_start, going-asks, going-columns, going_at, going-fits, going_more, going-refused}
-use Rattle.checker.proofs.Topping.{going-differs, going-short, going-passed}
-use Rattle.checker.proofs.Tabled.{table-columns}
-use mathlib.Core.Logic.{⊎_elim}
-use mathlib.Core.Path.{ap}
-use borrow.Author.Rules.{rules}
-use borrow.Author.Tests.{not-true, not-false}
-use native.Mathlib.Omega.{arith}
+use Rattle.checker.proofs.Topping.{Going}
 use Prim.Native.Nat.{◌-◌}
-use Rattle.layout.specs.declared.cursor.Cursor.{Cursor}
-use mathlib.Core.Bool.{not}
 use Rattle.checker.proofs.each.check_each.Given as goal
 
 abbrev pub invariant-loop-k : goal.invariant-loop-k

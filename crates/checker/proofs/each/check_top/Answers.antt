@@ -1,6 +1,5 @@
 -- `checker::each::check_top` meets its contract. Assumes nothing.
 use Rattle.checker.proofs.Topping.{top-checking, top-named, top-passed, top-refused}
-use borrow.Author.Rules.{rules}
 use Rattle.checker.proofs.each.check_top.Goals as goal
 
 pub skip_by-e-requires : goal.skip_by-e-requires
@@ -13,11 +12,15 @@ check_selector-requires c =
 
 pub still_same-b-requires : goal.still_same-b-requires
 still_same-b-requires c =
-    let (Γ, T) = c.requires.top_at in record { tables = c.requires.tables; named_at = (
-          _,
-          top-named T c.skip_by-e.ensures c.top-w.ensures (c.check_selector.ensures _ Γ (top-checking T c.skip_by-e.ensures c.top-w.ensures))
-              c.in-Passed.is,
-        ); columns_at = c.requires.columns_at }
+    let (Γ, T) = c.requires.top_at in record {
+      tables = c.requires.tables;
+      named_at = (
+        _,
+        top-named T c.skip_by-e.ensures c.top-w.ensures (c.check_selector.ensures _ Γ (top-checking T c.skip_by-e.ensures c.top-w.ensures))
+            c.in-Passed.is,
+      );
+      columns_at = c.requires.columns_at;
+    }
 
 pub returns-in-Passed : goal.returns-in-Passed
 returns-in-Passed c =

@@ -1,6 +1,5 @@
 -- `checker::each::fit_first` meets its contract. Assumes nothing.
 use Rattle.checker.proofs.Topping.{fit_unknown, fit_asks, fits-top}
-use borrow.Author.Rules.{rules}
 use Rattle.checker.proofs.each.fit_first.Goals as goal
 
 pub returns-then-columns-eq0 : goal.returns-then-columns-eq0
@@ -17,8 +16,11 @@ returns-then-incoming-gt-LONGEST_PLAN c =
 
 pub fit_top-requires : goal.fit_top-requires
 fit_top-requires c =
-    let (Γ, T) = c.requires.top_at in record { column_fit_from = fit_asks T c.requires.columns_at c.requires.indexed c.stride_of-stride.ensures.value c.stride_of-stride.ensures.result_nonzero c.if-columns-eq0.false
-          c.if-target-gt-LONGEST.false; s_len_bound = (c.if-incoming-gt-LONGEST_PLAN.false, T.small) }
+    let (Γ, T) = c.requires.top_at in record {
+      column_fit_from = fit_asks T c.requires.columns_at c.requires.indexed c.stride_of-stride.ensures.value c.stride_of-stride.ensures.result_nonzero c.if-columns-eq0.false
+          c.if-target-gt-LONGEST.false;
+      s_len_bound = (c.if-incoming-gt-LONGEST_PLAN.false, T.small);
+    }
 
 pub returns : goal.returns
 returns c =

@@ -1,6 +1,5 @@
 -- `checker::each::next_column` meets its contract. Assumes nothing.
 use Rattle.checker.proofs.Topping.{none-next, next-labelled, next-found, next-typed}
-use borrow.Author.Rules.{rules}
 use Rattle.checker.proofs.each.next_column.Goals as goal
 
 pub returns-then-columns-eq0 : goal.returns-then-columns-eq0

@@ -3,7 +3,6 @@ use Rattle.checker.proofs.Topping.{not-before, none-same, column-same, column-di
 use Rattle.layout.specs.Tree.{fields_of}
 use Rattle.forms.proofs.Comparing.{split}
 use Rattle.checker.specs.code.Tops.{same_first}
-use borrow.Author.Rules.{rules}
 use borrow.Author.Tests.{not-true, not-false}
 use mathlib.Core.Path.{ap}
 use mathlib.Core.Bool.{not}
@@ -20,8 +19,12 @@ returns-then-columns-eq0 c =
 
 pub same_column-requires : goal.same_column-requires
 same_column-requires c =
-    record { tables = c.requires.tables; named_at = c.requires.named_at; column_at = (split c.requires.columns_at
-            c.if-columns-eq0.false).first }
+    record {
+      tables = c.requires.tables;
+      named_at = c.requires.named_at;
+      column_at = (split c.requires.columns_at
+          c.if-columns-eq0.false).first;
+    }
 
 pub returns-in-At : goal.returns-in-At
 returns-in-At c =

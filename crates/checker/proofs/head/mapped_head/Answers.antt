@@ -2,7 +2,6 @@
 use Rattle.checker.proofs.Headed.{made-position_never, made-constant_never, made-cast_never, made-rename_never, made_struct-is, made_list-is}
 use Rattle.checker.proofs.Headed.{made_array_asks, made_array-is}
 use Rattle.walk.proofs.Heads.{never_refused}
-use borrow.Author.Rules.{rules}
 use Rattle.checker.proofs.head.mapped_head.Goals as goal
 
 pub skip_by-requires : goal.skip_by-requires

@@ -1,6 +1,5 @@
 -- `checker::head::raw_head` meets its contract. Assumes nothing.
 use Rattle.checker.proofs.Headed.{raw-leaf, raw-struct, raw-list, raw_array, raw_never}
-use borrow.Author.Rules.{rules}
 use Rattle.checker.proofs.head.raw_head.Goals as goal
 
 pub returns-in-Leaf : goal.returns-in-Leaf

@@ -1,6 +1,5 @@
 -- `checker::head::raw_width` meets its contract. Assumes nothing.
 use Rattle.checker.proofs.Headed.{width-leaf, width-struct, width-list, width_is, raw_never}
-use borrow.Author.Rules.{rules}
 use Rattle.checker.proofs.head.raw_width.Goals as goal
 
 pub returns-in-Leaf : goal.returns-in-Leaf

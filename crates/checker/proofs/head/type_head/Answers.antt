@@ -1,7 +1,6 @@
 -- `checker::head::type_head` meets its contract. Assumes nothing.
 use Rattle.checker.proofs.Headed.{from_incoming, from-plan, from-mapping}
 use mathlib.Core.Path.{refl}
-use borrow.Author.Rules.{rules}
 use Rattle.checker.proofs.head.type_head.Goals as goal
 
 pub mapped_head-requires : goal.mapped_head-requires

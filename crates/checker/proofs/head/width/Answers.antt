@@ -1,8 +1,6 @@
 -- `checker::head::width` meets its contract. Assumes nothing.
-use Rattle.checker.proofs.Headed.{Widening, mapped-before, widening_start, widening-asks, widening-incoming, widening-plan, widening-less}
+use Rattle.checker.proofs.Headed.{mapped-before, widening_start, widening-asks, widening-incoming, widening-plan, widening-less}
 use Rattle.checker.proofs.Headed.{widening-again}
-use borrow.Author.Rules.{rules}
-use Rattle.walk.specs.code.Walks.{rank}
 use Rattle.checker.proofs.head.width.Goals as goal
 
 pub loop-z-init : goal.loop-z-init

@@ -1,6 +1,4 @@
-use Rattle.checker.proofs.Headed.{Widening, mapped-before, widening_start, widening-asks, widening-incoming, widening-plan, widening-less}
-use Rattle.checker.proofs.Headed.{widening-again}
-use borrow.Author.Rules.{rules}
+use Rattle.checker.proofs.Headed.{Widening}
 use Rattle.walk.specs.code.Walks.{rank}
 use Rattle.checker.proofs.head.width.Given as goal
 

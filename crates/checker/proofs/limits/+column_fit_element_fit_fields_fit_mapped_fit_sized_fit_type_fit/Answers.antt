@@ -1,6 +1,5 @@
 -- `column_fit`, `element_fit`, `fields_fit`, `mapped_fit`, `sized_fit` and `type_fit` of `checker::limits` meet their
 -- contracts, by the falling measures below. Assumes nothing.
-use borrow.Author.Rules.{rules}
 use native.Mathlib.Omega.{arith}
 use mathlib.Core.Path.{refl, ap, ◌∙◌}
 use mathlib.Core.Bool.{false}
@@ -9,9 +8,8 @@ use Rattle.checker.proofs.Resolving.{named-typed}
 use Rattle.checker.proofs.Children.{made_asks}
 use Rattle.checker.proofs.Headed.{from_incoming, from-plan}
 use Rattle.checker.proofs.Fitting.{fit_long, fit_bounded, fit_around, fit_none, struct-short, struct_asks, struct_bounded, struct-fits, list_asks}
-use Rattle.checker.proofs.Fitting.{array_asks, list-fits, array-fits, made_no_leaf, sized-is, column-over, column_fits, Fitting, fitting-start}
+use Rattle.checker.proofs.Fitting.{array_asks, list-fits, array-fits, made_no_leaf, sized-is, column-over, column_fits, fitting-start}
 use Rattle.checker.proofs.Fitting.{fitting-end, fitting-asks, fitting-over, fitting-small, fitting-more}
-use Prim.Native.Nat.{ℕ, ◌+◌, ◌*◌, ◌-◌, ◌<◌}
 use Rattle.checker.proofs.limits.+column_fit_element_fit_fields_fit_mapped_fit_sized_fit_type_fit.Goals as goal
 
 pub column_fit-name_at-name-requires : goal.column_fit-name_at-name-requires
@@ -33,10 +31,10 @@ column_fit-overflow_sub-room-2 t c =
 pub column_fit-sized_fit-f-requires : goal.column_fit-sized_fit-f-requires
 column_fit-sized_fit-f-requires t c =
     let (b, a, N, e) = c.requires.named_at in (
-  omega
-      (arith, c.decreases),
-  (c.requires.tables, (b, a.type, named-typed N, e)),
-)
+      omega
+          (arith, c.decreases),
+      (c.requires.tables, (b, a.type, named-typed N, e)),
+    )
 
 pub column_fit-overflow_add-len : goal.column_fit-overflow_add-len
 column_fit-overflow_add-len t c =
@@ -45,12 +43,12 @@ column_fit-overflow_add-len t c =
 pub column_fit-joined-requires : goal.column_fit-joined-requires
 column_fit-joined-requires t c =
     let (b, a, N, e) = c.requires.named_at in λ s d q. omega (
-  arith,
-  (fit_bounded _ _ _ _
-      (c.sized_fit-f.ensures b a.type (named-typed N) e) s d q).1,
-  c.if-room-len.false,
-  c.ranges.room,
-)
+      arith,
+      (fit_bounded _ _ _ _
+          (c.sized_fit-f.ensures b a.type (named-typed N) e) s d q).1,
+      c.if-room-len.false,
+      c.ranges.room,
+    )
 
 pub column_fit-returns : goal.column_fit-returns
 column_fit-returns t c =
@@ -72,10 +70,10 @@ element_fit-overflow_sub-levels t c =
 pub element_fit-type_fit-f-requires : goal.element_fit-type_fit-f-requires
 element_fit-type_fit-f-requires t c =
     let (u, a, R, P) = c.requires.resolved_at in (
-  omega
-      (arith, c.decreases, c.requires.levels_nonzero),
-  (c.requires.tables, (_, c.part-p.ensures u a R P)),
-)
+      omega
+          (arith, c.decreases, c.requires.levels_nonzero),
+      (c.requires.tables, (_, c.part-p.ensures u a R P)),
+    )
 
 pub element_fit-around-requires : goal.element_fit-around-requires
 element_fit-around-requires t c =
@@ -112,8 +110,7 @@ fields_fit-overflow_sub-room t c =
     omega (arith, c.loop-k.invariant.small)
 
 pub fields_fit-column_fit-requires : goal.fields_fit-column_fit-requires
-fields_fit-column_fit-requires t c =
-    (
+fields_fit-column_fit-requires t c = (
   omega (arith, c.decreases),
   let (a, N) = fitting-asks
       c.loop-k.invariant c.loop-k-test.true c.child_at-x.ensures in
@@ -123,13 +120,13 @@ fields_fit-column_fit-requires t c =
 pub fields_fit-overflow_add-size : goal.fields_fit-overflow_add-size
 fields_fit-overflow_add-size t c =
     omega (
-  arith,
-  fitting-small c.loop-k.invariant
-      c.loop-k-test.true c.child_at-x.ensures
-      c.column_fit.ensures
-      c.in-Within.is,
-  c.ranges.room,
-)
+      arith,
+      fitting-small c.loop-k.invariant
+          c.loop-k-test.true c.child_at-x.ensures
+          c.column_fit.ensures
+          c.in-Within.is,
+      c.ranges.room,
+    )
 
 pub fields_fit-returns-in-Over : goal.fields_fit-returns-in-Over
 fields_fit-returns-in-Over t c =
@@ -143,10 +140,10 @@ fields_fit-skip_by-c-requires t c =
 pub fields_fit-overflow_add-k : goal.fields_fit-overflow_add-k
 fields_fit-overflow_add-k t c =
     omega (
-  arith,
-  c.ranges.count,
-  c.loop-k-test.true,
-)
+      arith,
+      c.ranges.count,
+      c.loop-k-test.true,
+    )
 
 pub fields_fit-loop-k-smaller : goal.fields_fit-loop-k-smaller
 fields_fit-loop-k-smaller t c =
@@ -183,17 +180,17 @@ mapped_fit-overflow_sub-levels t c =
 pub mapped_fit-fields_fit-f-requires : goal.mapped_fit-fields_fit-f-requires
 mapped_fit-fields_fit-f-requires t c =
     let (u, R) = c.requires.resolved_at in (
-  omega (
-    arith,
-    c.decreases,
-    c.if-levels-eq0.false,
-  ),
-  (
-    c.requires.tables,
-    struct_asks (c.type_head.ensures u R) R
-        c.requires.source_value c.in-Struct.is,
-  ),
-)
+      omega (
+        arith,
+        c.decreases,
+        c.if-levels-eq0.false,
+      ),
+      (
+        c.requires.tables,
+        struct_asks (c.type_head.ensures u R) R
+            c.requires.source_value c.in-Struct.is,
+      ),
+    )
 
 pub mapped_fit-around-requires : goal.mapped_fit-around-requires
 mapped_fit-around-requires t c =
@@ -218,32 +215,32 @@ mapped_fit-around-requires t c =
 pub mapped_fit-element_fit-requires : goal.mapped_fit-element_fit-requires
 mapped_fit-element_fit-requires t c =
     let (u, R) = c.requires.resolved_at in (
-  omega
-      (arith, c.decreases),
-  (
-    c.requires.tables,
-    (
-      list_asks (c.type_head.ensures u R) R
-          c.in-List.is,
-      omega (arith, c.if-levels-eq0.false),
-    ),
-  ),
-)
+      omega
+          (arith, c.decreases),
+      (
+        c.requires.tables,
+        (
+          list_asks (c.type_head.ensures u R) R
+              c.in-List.is,
+          omega (arith, c.if-levels-eq0.false),
+        ),
+      ),
+    )
 
 pub mapped_fit-element_fit-requires-in-Array : goal.mapped_fit-element_fit-requires-in-Array
 mapped_fit-element_fit-requires-in-Array t c =
     let (u, R) = c.requires.resolved_at in (
-  omega
-      (arith, c.decreases),
-  (
-    c.requires.tables,
-    (
-      array_asks (c.type_head.ensures u R) R
-          c.in-Array.is,
-      omega (arith, c.if-levels-eq0.false),
-    ),
-  ),
-)
+      omega
+          (arith, c.decreases),
+      (
+        c.requires.tables,
+        (
+          array_asks (c.type_head.ensures u R) R
+              c.in-Array.is,
+          omega (arith, c.if-levels-eq0.false),
+        ),
+      ),
+    )
 
 pub mapped_fit-returns-in-Leaf : goal.mapped_fit-returns-in-Leaf
 mapped_fit-returns-in-Leaf t c =
@@ -277,10 +274,10 @@ sized_fit-resolve-r-requires t c =
 pub sized_fit-type_fit-requires : goal.sized_fit-type_fit-requires
 sized_fit-type_fit-requires t c =
     let (b, u, X, e) = c.requires.typed_at in (
-  omega
-      (arith, c.decreases),
-  (c.requires.tables, (u, (c.resolve-r.ensures u X).resolved)),
-)
+      omega
+          (arith, c.decreases),
+      (c.requires.tables, (u, (c.resolve-r.ensures u X).resolved)),
+    )
 
 pub sized_fit-returns-in-Is : goal.sized_fit-returns-in-Is
 sized_fit-returns-in-Is t c =
@@ -299,8 +296,7 @@ type_fit-raw_fit-requires-in-Plan t c =
     let (u, R) = c.requires.resolved_at in (u, from-plan R c.in-Plan.is)
 
 pub type_fit-mapped_fit-requires : goal.type_fit-mapped_fit-requires
-type_fit-mapped_fit-requires t c =
-    (
+type_fit-mapped_fit-requires t c = (
   omega (arith, c.decreases),
   (c.requires.tables, (c.requires.resolved_at, c.in-Mapped.is)),
 )

@@ -1,15 +1,5 @@
-use borrow.Author.Rules.{rules}
-use native.Mathlib.Omega.{arith}
-use mathlib.Core.Path.{refl, ap, ◌∙◌}
-use mathlib.Core.Bool.{false}
-use Rattle.checker.specs.code.Limits.{around_of}
-use Rattle.checker.proofs.Resolving.{named-typed}
-use Rattle.checker.proofs.Children.{made_asks}
-use Rattle.checker.proofs.Headed.{from_incoming, from-plan}
-use Rattle.checker.proofs.Fitting.{fit_long, fit_bounded, fit_around, fit_none, struct-short, struct_asks, struct_bounded, struct-fits, list_asks}
-use Rattle.checker.proofs.Fitting.{array_asks, list-fits, array-fits, made_no_leaf, sized-is, column-over, column_fits, Fitting, fitting-start}
-use Rattle.checker.proofs.Fitting.{fitting-end, fitting-asks, fitting-over, fitting-small, fitting-more}
-use Prim.Native.Nat.{ℕ, ◌+◌, ◌*◌, ◌-◌, ◌<◌}
+use Rattle.checker.proofs.Fitting.{Fitting}
+use Prim.Native.Nat.{◌+◌, ◌*◌, ◌-◌}
 use Rattle.checker.proofs.limits.+column_fit_element_fit_fields_fit_mapped_fit_sized_fit_type_fit.Given as goal
 
 abbrev pub decreases-column_fit : goal.decreases-column_fit

@@ -3,7 +3,6 @@ use native.Mathlib.Omega.{arith}
 use mathlib.Core.Path.{sym, ap, ◌∙◌}
 use Rattle.checker.specs.code.Limits.{added_of, joined_of}
 use Rattle.checker.proofs.Fitting.{fit_bounded}
-use borrow.Author.Rules.{rules}
 use Rattle.checker.proofs.limits.add_field.Goals as goal
 
 pub overflow_sub-before : goal.overflow_sub-before

@@ -2,7 +2,6 @@
 use native.Mathlib.Omega.{arith}
 use mathlib.Core.Path.{sym, ap}
 use Rattle.checker.specs.code.Limits.{around_of}
-use borrow.Author.Rules.{rules}
 use Rattle.checker.proofs.limits.around.Goals as goal
 
 pub overflow_add-result : goal.overflow_add-result

@@ -3,7 +3,6 @@ use native.Mathlib.Omega.{arith}
 use mathlib.Core.Path.{sym, ap}
 use Rattle.checker.specs.code.Limits.{joined_of}
 use Rattle.checker.proofs.Fitting.{joined_is}
-use borrow.Author.Rules.{rules}
 use Rattle.checker.proofs.limits.joined.Goals as goal
 
 pub overflow_add-result : goal.overflow_add-result

@@ -1,6 +1,5 @@
 -- `checker::limits::raw_fit` meets its contract. Assumes nothing.
 use Rattle.checker.proofs.Fitting.{raw-is}
-use borrow.Author.Rules.{rules}
 use Rattle.checker.proofs.limits.raw_fit.Goals as goal
 
 pub form_size-z-requires : goal.form_size-z-requires

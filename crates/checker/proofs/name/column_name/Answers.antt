@@ -1,13 +1,16 @@
 -- `checker::name::column_name` meets its contract. Assumes nothing.
 use Rattle.checker.proofs.Naming.{column_name-is, column_name-absent}
 use Rattle.checker.proofs.Tabled.{by_stride}
-use borrow.Author.Rules.{rules}
 use Rattle.checker.proofs.name.column_name.Goals as goal
 
 pub indexed_column-requires : goal.indexed_column-requires
 indexed_column-requires c =
-    let (a, C) = c.requires.column_of in record { columns_at = C.columns; indexed = by_stride c.stride_of.ensures.value
-            c.requires.indexed; stride_nonzero = c.stride_of.ensures.result_nonzero }
+    let (a, C) = c.requires.column_of in record {
+      columns_at = C.columns;
+      indexed = by_stride c.stride_of.ensures.value
+          c.requires.indexed;
+      stride_nonzero = c.stride_of.ensures.result_nonzero;
+    }
 
 pub returns-in-At : goal.returns-in-At
 returns-in-At c =

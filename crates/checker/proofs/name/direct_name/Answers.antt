@@ -1,7 +1,6 @@
 -- `checker::name::direct_name` meets its contract. Assumes nothing.
 use Rattle.checker.proofs.Headed.{from_incoming, from-plan, from-mapping}
 use mathlib.Core.Path.{refl}
-use borrow.Author.Rules.{rules}
 use Rattle.checker.proofs.name.direct_name.Goals as goal
 
 pub raw_name-requires : goal.raw_name-requires

@@ -2,7 +2,6 @@
 use Rattle.checker.proofs.Naming.{mapped-field, mapped-list, mapped-array}
 use Rattle.checker.proofs.Headed.{made-position_never, made-constant_never, made-cast_never, made-rename_never}
 use Rattle.walk.proofs.Heads.{never_refused}
-use borrow.Author.Rules.{rules}
 use Rattle.checker.proofs.name.mapped_name.Goals as goal
 
 pub returns-in-Position : goal.returns-in-Position

@@ -1,12 +1,9 @@
 -- `checker::name::name_at` meets its contract. Assumes nothing.
-use Rattle.checker.proofs.Naming.{Naming, naming_start, named-before, naming_is, naming-input-less, naming-input, naming-scope, naming-column}
+use Rattle.checker.proofs.Naming.{naming_start, named-before, naming_is, naming-input-less, naming-input, naming-scope, naming-column}
 use Rattle.checker.proofs.Naming.{naming-top, direct-asks, naming-direct, naming-child-asks, naming-child-less, naming-child}
-use Rattle.walk.specs.code.Walks.{rank}
-use Rattle.walk.specs.code.Ends.{EndsAt}
 use Rattle.walk.proofs.Walks.{walk_inside}
 use native.Mathlib.Omega.{arith}
 use Rattle.checker.proofs.Tabled.{table-columns}
-use borrow.Author.Rules.{rules}
 use Rattle.checker.proofs.name.name_at.Goals as goal
 
 pub loop-name-init : goal.loop-name-init
@@ -51,8 +48,12 @@ returns-then-x-eq0 c =
 
 pub enclosing-r-requires : goal.enclosing-r-requires
 enclosing-r-requires c =
-    record { tables = c.requires.tables; scoped_at = naming-scope c.loop-name.invariant.0
-            c.own_name.ensures c.in-Position.is; deep_nonzero = omega (arith, c.if-x-eq0.false) }
+    record {
+      tables = c.requires.tables;
+      scoped_at = naming-scope c.loop-name.invariant.0
+          c.own_name.ensures c.in-Position.is;
+      deep_nonzero = omega (arith, c.if-x-eq0.false);
+    }
 
 pub direct_name-requires : goal.direct_name-requires
 direct_name-requires c =
@@ -65,13 +66,21 @@ returns-in-Is-direct_name c =
 
 pub ends_for-ends-requires : goal.ends_for-ends-requires
 ends_for-ends-requires c =
-    record { skips = c.requires.tables.skips; at_in_bounds = walk_inside (naming-child-asks c.loop-name.invariant.0 c.own_name.ensures c.in-Position.is c.enclosing-r.ensures
-            c.direct_name.ensures c.in-Child.is).0.1; ends_at = c.loop-name.invariant.1 }
+    record {
+      skips = c.requires.tables.skips;
+      at_in_bounds = walk_inside (naming-child-asks c.loop-name.invariant.0 c.own_name.ensures c.in-Position.is c.enclosing-r.ensures
+          c.direct_name.ensures c.in-Child.is).0.1;
+      ends_at = c.loop-name.invariant.1;
+    }
 
 pub child_in-x-requires : goal.child_in-x-requires
 child_in-x-requires c =
-    record { skips = c.requires.tables.skips; deep_bound = naming-child-asks c.loop-name.invariant.0 c.own_name.ensures c.in-Position.is c.enclosing-r.ensures c.direct_name.ensures
-            c.in-Child.is; ends_at = c.ends_for-ends.ensures }
+    record {
+      skips = c.requires.tables.skips;
+      deep_bound = naming-child-asks c.loop-name.invariant.0 c.own_name.ensures c.in-Position.is c.enclosing-r.ensures c.direct_name.ensures
+          c.in-Child.is;
+      ends_at = c.ends_for-ends.ensures;
+    }
 
 pub loop-name-smaller : goal.loop-name-smaller
 loop-name-smaller c =
@@ -79,9 +88,8 @@ loop-name-smaller c =
     c.in-Child.is c.child_in-x.ensures
 
 pub loop-name-preserved : goal.loop-name-preserved
-loop-name-preserved c =
-    (
-      naming-child c.loop-name.invariant.0 c.own_name.ensures c.in-Position.is c.enclosing-r.ensures c.direct_name.ensures
-          c.in-Child.is c.child_in-x.ensures,
-      c.ends_for-ends.ensures,
-    )
+loop-name-preserved c = (
+  naming-child c.loop-name.invariant.0 c.own_name.ensures c.in-Position.is c.enclosing-r.ensures c.direct_name.ensures
+      c.in-Child.is c.child_in-x.ensures,
+  c.ends_for-ends.ensures,
+)

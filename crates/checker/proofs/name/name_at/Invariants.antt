@@ -1,11 +1,6 @@
-use Rattle.checker.proofs.Naming.{Naming, naming_start, named-before, naming_is, naming-input-less, naming-input, naming-scope, naming-column}
-use Rattle.checker.proofs.Naming.{naming-top, direct-asks, naming-direct, naming-child-asks, naming-child-less, naming-child}
+use Rattle.checker.proofs.Naming.{Naming}
 use Rattle.walk.specs.code.Walks.{rank}
 use Rattle.walk.specs.code.Ends.{EndsAt}
-use Rattle.walk.proofs.Walks.{walk_inside}
-use native.Mathlib.Omega.{arith}
-use Rattle.checker.proofs.Tabled.{table-columns}
-use borrow.Author.Rules.{rules}
 use Rattle.checker.proofs.name.name_at.Given as goal
 
 abbrev pub invariant-loop-name : goal.invariant-loop-name

@@ -1,7 +1,6 @@
 -- `checker::name::own_name` meets its contract. Assumes nothing.
 use Rattle.checker.proofs.Naming.{own_position, own_constant, own_cast, own_rename, own_struct, own_list, own_array}
 use Rattle.walk.proofs.Heads.{never_refused}
-use borrow.Author.Rules.{rules}
 use Rattle.checker.proofs.name.own_name.Goals as goal
 
 pub skip_by-requires : goal.skip_by-requires

@@ -1,7 +1,6 @@
 -- `checker::name::raw_name` meets its contract. Assumes nothing.
 use Rattle.checker.proofs.Headed.{raw_never}
 use Rattle.checker.proofs.Naming.{raw-fields, raw_name-leaf, raw_name-list, raw_name-array, raw-name-field, raw-name-absent}
-use borrow.Author.Rules.{rules}
 use Rattle.checker.proofs.name.raw_name.Goals as goal
 
 pub column_at-requires : goal.column_at-requires

@@ -8,8 +8,11 @@ outward-y-requires c =
 
 pub resolve-requires : goal.resolve-requires
 resolve-requires c =
-    let (Δ, S) = c.requires.scoped_at in record { tables = c.requires.tables; typed_at = enclosing_asks S
-          c.requires.deep_nonzero c.outward-y.ensures.steps_to }
+    let (Δ, S) = c.requires.scoped_at in record {
+      tables = c.requires.tables;
+      typed_at = enclosing_asks S
+          c.requires.deep_nonzero c.outward-y.ensures.steps_to;
+    }
 
 pub returns : goal.returns
 returns c =

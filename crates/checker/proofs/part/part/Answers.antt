@@ -1,7 +1,6 @@
 -- `checker::part::part` meets its contract. Assumes nothing.
 use Rattle.checker.proofs.Parting.{child_asks, child-typed, part_incoming, part-plan}
 use Rattle.checker.proofs.Headed.{from_incoming, from-plan, from-mapping}
-use borrow.Author.Rules.{rules}
 use Rattle.checker.proofs.part.part.Goals as goal
 
 pub raw_part-c-requires : goal.raw_part-c-requires

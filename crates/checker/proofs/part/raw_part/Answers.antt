@@ -1,7 +1,6 @@
 -- `checker::part::raw_part` meets its contract. Assumes nothing.
 use Rattle.checker.proofs.Parting.{part-leads}
 use native.Mathlib.Omega.{arith}
-use borrow.Author.Rules.{rules}
 use Rattle.checker.proofs.part.raw_part.Goals as goal
 
 pub type_at-requires : goal.type_at-requires

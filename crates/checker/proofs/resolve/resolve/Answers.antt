@@ -1,8 +1,6 @@
 -- `checker::resolve::resolve` meets its contract. Assumes nothing.
-use borrow.Author.Rules.{rules}
-use Rattle.checker.proofs.Resolving.{Onward, onward-start, onward_stops, resolves-incoming, resolves-plan, resolves-mapped, before-end, onward-less}
+use Rattle.checker.proofs.Resolving.{onward-start, onward_stops, resolves-incoming, resolves-plan, resolves-mapped, before-end, onward-less}
 use Rattle.checker.proofs.Resolving.{onward-again}
-use Rattle.walk.specs.code.Walks.{rank}
 use Rattle.checker.proofs.resolve.resolve.Goals as goal
 
 pub loop-c-init : goal.loop-c-init

@@ -1,6 +1,4 @@
-use borrow.Author.Rules.{rules}
-use Rattle.checker.proofs.Resolving.{Onward, onward-start, onward_stops, resolves-incoming, resolves-plan, resolves-mapped, before-end, onward-less}
-use Rattle.checker.proofs.Resolving.{onward-again}
+use Rattle.checker.proofs.Resolving.{Onward}
 use Rattle.walk.specs.code.Walks.{rank}
 use Rattle.checker.proofs.resolve.resolve.Given as goal
 

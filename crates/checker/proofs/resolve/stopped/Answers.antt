@@ -2,7 +2,6 @@
 use Rattle.walk.proofs.Heads.{is-cast, never_refused}
 use Rattle.checker.proofs.Resolving.{stop_column, stop_constant, stop_cast, stop_rename, stop_struct, stop_list, stop_array, stop_bounds}
 use Rattle.checker.proofs.Tabled.{table-columns}
-use borrow.Author.Rules.{rules}
 use Rattle.checker.proofs.resolve.stopped.Goals as goal
 
 pub slice_bounds-in_column-count : goal.slice_bounds-in_column-count

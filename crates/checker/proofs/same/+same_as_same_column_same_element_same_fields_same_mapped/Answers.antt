@@ -1,7 +1,7 @@
 -- `same_as`, `same_column`, `same_element`, `same_fields` and `same_mapped` of `checker::same` meet their contracts, by
 -- the falling measures below. Assumes nothing.
 use Rattle.checker.proofs.Alike.{raw-ends, codes_differ, numbers_differ, struct-there, list-there, array-there, structs_same, lists_same, arrays_same}
-use Rattle.checker.proofs.Alike.{field-differs, field-goes, Matching, matching_start, matching_end, matching-first, matching-asks, matching-no}
+use Rattle.checker.proofs.Alike.{field-differs, field-goes, matching_start, matching_end, matching-first, matching-asks, matching-no}
 use Rattle.checker.proofs.Alike.{matching-more}
 use Rattle.checker.proofs.Fitting.{made_no_leaf, struct_asks, list_asks, array_asks}
 use Rattle.checker.proofs.Children.{made_asks}
@@ -11,10 +11,8 @@ use Rattle.forms.proofs.Comparing.{behind-label, never_unlabelled}
 use Rattle.layout.proofs.View.{deep, label_got}
 use Rattle.layout.proofs.Ways.{label_in}
 use borrow.Author.Tests.{not-true, not-false}
-use borrow.Author.Rules.{rules}
 use native.Mathlib.Omega.{arith}
 use mathlib.Core.Path.{refl}
-use Prim.Native.Nat.{◌+◌, ◌*◌, ◌-◌, ℕ, ◌<◌}
 use mathlib.Core.Path.{ap}
 use mathlib.Core.Bool.{not}
 use Rattle.checker.proofs.same.+same_as_same_column_same_element_same_fields_same_mapped.Goals as goal
@@ -28,20 +26,19 @@ same_as-same_type-requires-in-Plan t c =
     let (u, R) = c.requires.resolved_at in record { type_at = (from-plan R c.in-Plan.is).type; type_at_2 = c.requires.type_at }
 
 pub same_as-same_mapped-requires : goal.same_as-same_mapped-requires
-same_as-same_mapped-requires t c =
+same_as-same_mapped-requires t c = (
+  omega (arith, c.decreases),
+  (
+    c.requires.tables,
     (
-      omega (arith, c.decreases),
+      c.requires.resolved_at,
       (
-        c.requires.tables,
-        (
-          c.requires.resolved_at,
-          (
-            c.in-Mapped.is,
-            c.requires.type_at,
-          ),
-        ),
+        c.in-Mapped.is,
+        c.requires.type_at,
       ),
-    )
+    ),
+  ),
+)
 
 pub same_as-returns-in-Incoming : goal.same_as-returns-in-Incoming
 same_as-returns-in-Incoming t c =
@@ -148,18 +145,17 @@ same_fields-child_at-x-requires t c =
     made_asks c.loop-k.invariant.start
 
 pub same_fields-same_column-requires : goal.same_fields-same_column-requires
-same_fields-same_column-requires t c =
+same_fields-same_column-requires t c = (
+  omega (arith, c.decreases),
+  (
+    c.requires.tables,
     (
-      omega (arith, c.decreases),
-      (
-        c.requires.tables,
-        (
-          matching-asks c.loop-k.invariant c.loop-k-test.true c.child_at-x.ensures,
-          (matching-first c.loop-k.invariant
-              c.loop-k-test.true).first,
-        ),
-      ),
-    )
+      matching-asks c.loop-k.invariant c.loop-k-test.true c.child_at-x.ensures,
+      (matching-first c.loop-k.invariant
+          c.loop-k-test.true).first,
+    ),
+  ),
+)
 
 pub same_fields-returns-in-Differ : goal.same_fields-returns-in-Differ
 same_fields-returns-in-Differ t c =

@@ -3,7 +3,6 @@ use Rattle.checker.specs.declared.place.TypeHead.{TypeHead}
 use Rattle.checker.specs.code.Same.{code_of}
 use Rattle.checker.specs.code.TypesAt.{head_kind}
 use mathlib.Core.Path.{sym, ap}
-use borrow.Author.Rules.{rules}
 use Rattle.checker.proofs.same.code.Goals as goal
 
 pub returns-in-Leaf : goal.returns-in-Leaf

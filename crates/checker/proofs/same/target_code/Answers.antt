@@ -3,7 +3,6 @@ use Rattle.direct.proofs.Casting.{kind_of_lem}
 use Rattle.checker.specs.code.Same.{code_of}
 use Rattle.layout.proofs.View.{never_headless}
 use mathlib.Core.Path.{refl, ap}
-use borrow.Author.Rules.{rules}
 use Rattle.checker.proofs.same.target_code.Goals as goal
 
 pub returns-in-Leaf : goal.returns-in-Leaf

@@ -1,5 +1,4 @@
 -- `checker::same::target_end` meets its contract. Assumes nothing.
-use borrow.Author.Rules.{rules}
 use mathlib.Core.Path.{sym, ap}
 use Rattle.checker.specs.code.Same.{ends_from}
 use Rattle.checker.proofs.same.target_end.Goals as goal

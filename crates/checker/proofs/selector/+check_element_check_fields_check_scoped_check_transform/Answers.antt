@@ -1,15 +1,12 @@
 -- `check_element`, `check_fields`, `check_scoped` and `check_transform` of `checker::selector` meet their contracts, by
 -- the falling measures below. Assumes nothing.
-use Prim.Native.Nat.{◌+◌, ◌*◌, ◌-◌, ℕ, ◌<◌}
 use mathlib.Core.Path.{sym, ◌∙◌}
 use mathlib.Core.Bool.{true, false}
 use native.Mathlib.Omega.{arith}
-use Rattle.walk.specs.code.Walks.{rank}
 use Rattle.checker.proofs.Selecting.{checking-before, transform_is, a_transform, input_asks, input-stands, input-falls, input-refused, input-passed}
 use Rattle.checker.proofs.Selecting.{rest_of, one-element, element-child_asks, element-small, element_step, element-answer, element-refused}
-use Rattle.checker.proofs.Selecting.{element-passed, element-typed, element-given, mapping_asks, Passing, passing_start, passing-asks, passing-falls}
+use Rattle.checker.proofs.Selecting.{element-passed, element-typed, element-given, mapping_asks, passing_start, passing-asks, passing-falls}
 use Rattle.checker.proofs.Selecting.{passing-named, passing-refused, passing-more, passing_end}
-use borrow.Author.Rules.{rules}
 use Rattle.checker.proofs.selector.+check_element_check_fields_check_scoped_check_transform.Goals as goal
 
 pub check_element-child-x-requires : goal.check_element-child-x-requires
@@ -53,8 +50,7 @@ check_fields-child_at-x-requires t c =
     mapping_asks c.loop-k.invariant.start
 
 pub check_fields-check_scoped-requires : goal.check_fields-check_scoped-requires
-check_fields-check_scoped-requires t c =
-    (
+check_fields-check_scoped-requires t c = (
   omega (
     arith,
     c.decreases,
@@ -70,9 +66,13 @@ check_fields-check_scoped-requires t c =
 
 pub check_fields-add_field-fields-requires : goal.check_fields-add_field-fields-requires
 check_fields-add_field-fields-requires t c =
-    record { tables = c.requires.tables; named_at = passing-named c.loop-k.invariant c.loop-k-test.true
-        c.child_at-x.ensures c.check_scoped.ensures
-        c.in-Passed.is; bounded = c.loop-k.invariant.small }
+    record {
+      tables = c.requires.tables;
+      named_at = passing-named c.loop-k.invariant c.loop-k-test.true
+          c.child_at-x.ensures c.check_scoped.ensures
+          c.in-Passed.is;
+      bounded = c.loop-k.invariant.small;
+    }
 
 pub check_fields-skip_by-c-requires : goal.check_fields-skip_by-c-requires
 check_fields-skip_by-c-requires t c =
@@ -81,10 +81,10 @@ check_fields-skip_by-c-requires t c =
 pub check_fields-overflow_add-k : goal.check_fields-overflow_add-k
 check_fields-overflow_add-k t c =
     omega (
-  arith,
-  c.ranges.count,
-  c.loop-k-test.true,
-)
+      arith,
+      c.ranges.count,
+      c.loop-k-test.true,
+    )
 
 pub check_fields-loop-k-smaller : goal.check_fields-loop-k-smaller
 check_fields-loop-k-smaller t c =
@@ -115,9 +115,9 @@ check_fields-returns t c =
 pub check_scoped-check_transform-requires : goal.check_scoped-check_transform-requires
 check_scoped-check_transform-requires t c =
     let (s, Δ, C, d) = c.requires.checking_at in (
-  omega (arith, c.decreases),
-  (c.requires.tables, (s, Δ, C, d, transform_is C (c.is_transform.ensures C.standing.here) c.if-is_transform.true)),
-)
+      omega (arith, c.decreases),
+      (c.requires.tables, (s, Δ, C, d, transform_is C (c.is_transform.ensures C.standing.here) c.if-is_transform.true)),
+    )
 
 pub check_scoped-returns-then-is_transform : goal.check_scoped-returns-then-is_transform
 check_scoped-returns-then-is_transform t c =
@@ -153,12 +153,15 @@ check_transform-input_within-within-requires t c =
 
 pub check_transform-check_input-requires : goal.check_transform-check_input-requires
 check_transform-check_input-requires t c =
-    let (s, Δ, C, d, h) = c.requires.checking_at in record { tables = c.requires.tables; passed_input = (
-    s,
-    Δ,
-    input-passed C (a_transform C h).transforms c.to_input-x.ensures d
-        c.check_scoped.ensures c.in-Passed.is c.input_within-within.ensures,
-  ) }
+    let (s, Δ, C, d, h) = c.requires.checking_at in record {
+      tables = c.requires.tables;
+      passed_input = (
+        s,
+        Δ,
+        input-passed C (a_transform C h).transforms c.to_input-x.ensures d
+            c.check_scoped.ensures c.in-Passed.is c.input_within-within.ensures,
+      );
+    }
 
 pub check_transform-check_fields-requires : goal.check_transform-check_fields-requires
 check_transform-check_fields-requires t c =

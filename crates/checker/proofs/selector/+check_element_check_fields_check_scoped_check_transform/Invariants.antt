@@ -1,13 +1,6 @@
-use Prim.Native.Nat.{◌+◌, ◌*◌, ◌-◌, ℕ, ◌<◌}
-use mathlib.Core.Path.{sym, ◌∙◌}
-use mathlib.Core.Bool.{true, false}
-use native.Mathlib.Omega.{arith}
+use Prim.Native.Nat.{◌+◌, ◌*◌, ◌-◌}
 use Rattle.walk.specs.code.Walks.{rank}
-use Rattle.checker.proofs.Selecting.{checking-before, transform_is, a_transform, input_asks, input-stands, input-falls, input-refused, input-passed}
-use Rattle.checker.proofs.Selecting.{rest_of, one-element, element-child_asks, element-small, element_step, element-answer, element-refused}
-use Rattle.checker.proofs.Selecting.{element-passed, element-typed, element-given, mapping_asks, Passing, passing_start, passing-asks, passing-falls}
-use Rattle.checker.proofs.Selecting.{passing-named, passing-refused, passing-more, passing_end}
-use borrow.Author.Rules.{rules}
+use Rattle.checker.proofs.Selecting.{Passing}
 use Rattle.checker.proofs.selector.+check_element_check_fields_check_scoped_check_transform.Given as goal
 
 abbrev pub decreases-check_element : goal.decreases-check_element

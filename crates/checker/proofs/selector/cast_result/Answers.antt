@@ -3,7 +3,6 @@ use Rattle.checker.proofs.Checks.{cast-type, cast-refused, cast-passed, cast-sta
 use Rattle.checker.specs.code.Checking.{fitting_of}
 use borrow.Author.Tests.{not-true, not-false}
 use mathlib.Core.Path.{ap, ◌∙◌}
-use borrow.Author.Rules.{rules}
 use mathlib.Core.Bool.{not}
 use Rattle.checker.proofs.selector.cast_result.Goals as goal
 

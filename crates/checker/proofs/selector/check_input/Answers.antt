@@ -5,7 +5,6 @@ use Rattle.walk.proofs.Heads.{is_position_lem, is-constant, is-cast, is-rename, 
 use Rattle.walk.proofs.View.{selectors-counted}
 use Rattle.checker.proofs.Resolving.{named-typed}
 use Rattle.checker.proofs.Selecting.{by_cast, by_rename, no_source, input-given, input_measured, a_rename, none_left, some-fields, some-list, some-array}
-use borrow.Author.Rules.{rules}
 use Rattle.checker.proofs.selector.check_input.Goals as goal
 
 pub cast_result-requires : goal.cast_result-requires

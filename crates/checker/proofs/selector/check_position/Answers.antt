@@ -1,7 +1,6 @@
 -- `checker::selector::check_position` meets its contract. Assumes nothing.
 use Rattle.checker.proofs.Checks.{position-there, position_past}
 use mathlib.Core.Path.{sym}
-use borrow.Author.Rules.{rules}
 use Rattle.checker.proofs.selector.check_position.Goals as goal
 
 pub returns-then-k-scope : goal.returns-then-k-scope

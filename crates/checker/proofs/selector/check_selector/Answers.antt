@@ -4,7 +4,6 @@ use Rattle.plan.specs.Check.{type_of}
 use Rattle.checker.specs.code.Checking.{dropped_of}
 use Rattle.checker.proofs.Selecting.{checking-scope, scope-is}
 use Rattle.checker.proofs.Checks.{dropped-is}
-use borrow.Author.Rules.{rules}
 use Rattle.checker.proofs.selector.check_selector.Goals as goal
 
 pub scope_count-count-requires : goal.scope_count-count-requires

@@ -2,7 +2,6 @@
 use mathlib.Core.Path.{refl}
 use Rattle.walk.proofs.Heads.{is-cast, is-rename, is_struct_mapping, is_list_mapping, is-array, never_refused}
 use Rattle.checker.proofs.Selecting.{checks-position, checks-constant, no_transform_lem}
-use borrow.Author.Rules.{rules}
 use Rattle.checker.proofs.selector.check_source.Goals as goal
 
 pub returns-in-Position : goal.returns-in-Position

@@ -1,8 +1,6 @@
 -- `checker::selector::columns_within` meets its contract. Assumes nothing.
 use mathlib.Core.Bool.{true≢false}
 use mathlib.Core.Path.{sym}
-use native.Mathlib.Omega.{arith}
-use borrow.Author.Rules.{rules}
 use Rattle.checker.proofs.Within.{scope-limited}
 use Rattle.checker.proofs.selector.columns_within.Goals as goal
 

@@ -1,7 +1,6 @@
 -- `checker::selector::dropped` meets its contract. Assumes nothing.
 use mathlib.Core.Path.{sym, ap}
 use Rattle.checker.specs.code.Checking.{dropped_of}
-use borrow.Author.Rules.{rules}
 use Rattle.checker.proofs.selector.dropped.Goals as goal
 
 pub returns-in-Passed : goal.returns-in-Passed

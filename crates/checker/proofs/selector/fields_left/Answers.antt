@@ -1,5 +1,4 @@
 -- `checker::selector::fields_left` meets its contract. Assumes nothing.
-use borrow.Author.Rules.{rules}
 use mathlib.Core.Path.{sym, ap}
 use Rattle.checker.specs.code.Checking.{fields_left}
 use Rattle.checker.specs.declared.place.TypeHead.{TypeHead}

@@ -1,7 +1,6 @@
 -- `checker::selector::fitting` meets its contract. Assumes nothing.
 use mathlib.Core.Path.{sym, ap}
 use Rattle.checker.specs.code.Checking.{fitting_of}
-use borrow.Author.Rules.{rules}
 use Rattle.checker.proofs.selector.fitting.Goals as goal
 
 pub returns-in-Within : goal.returns-in-Within

@@ -1,5 +1,4 @@
 -- `checker::selector::input_head` meets its contract. Assumes nothing.
-use borrow.Author.Rules.{rules}
 use Rattle.checker.proofs.selector.input_head.Goals as goal
 
 pub resolve-r-requires : goal.resolve-r-requires

@@ -4,7 +4,6 @@ use mathlib.Core.Bool.{true≢false}
 use Rattle.layout.specs.Tree.{dtype_of}
 use Rattle.walk.proofs.Heads.{is-constant, is-cast, is-rename, is_struct_mapping, is_list_mapping, is-array}
 use Rattle.checker.proofs.Selecting.{transform_limited, position-limited, constant-limited}
-use borrow.Author.Rules.{rules}
 use Rattle.checker.proofs.selector.input_within.Goals as goal
 
 pub raw_fit-requires : goal.raw_fit-requires

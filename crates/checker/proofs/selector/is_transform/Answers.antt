@@ -2,7 +2,6 @@
 use mathlib.Core.Path.{sym, ap}
 use Rattle.walk.proofs.Heads.{is_position_lem, is-constant, is-cast, is-rename, is_struct_mapping, is_list_mapping, is-array, never_refused}
 use Rattle.checker.specs.code.Checking.{is_transform}
-use borrow.Author.Rules.{rules}
 use Rattle.checker.proofs.selector.is_transform.Goals as goal
 
 pub returns-in-Position : goal.returns-in-Position

@@ -1,5 +1,4 @@
 -- `checker::selector::nothing_left` meets its contract. Assumes nothing.
-use borrow.Author.Rules.{rules}
 use mathlib.Core.Path.{sym, ap}
 use Rattle.checker.specs.code.Checking.{nothing_left}
 use Rattle.checker.proofs.selector.nothing_left.Goals as goal

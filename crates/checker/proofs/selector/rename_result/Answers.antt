@@ -5,7 +5,6 @@ use Rattle.checker.specs.code.Checking.{fitting_of}
 use Rattle.checker.proofs.Resolving.{named-typed}
 use Rattle.checker.proofs.Checks.{result_is, result_kept}
 use Rattle.checker.specs.declared.selector.Measured.{Measured}
-use borrow.Author.Rules.{rules}
 use Rattle.checker.proofs.selector.rename_result.Goals as goal
 
 pub returns-then-within : goal.returns-then-within

@@ -1,7 +1,6 @@
 -- `checker::selector::scope_count` meets its contract. Assumes nothing.
 use Rattle.checker.proofs.Checks.{scope-top, scope_parts}
 use native.Mathlib.Omega.{arith}
-use borrow.Author.Rules.{rules}
 use Rattle.checker.proofs.selector.scope_count.Goals as goal
 
 pub returns-then-w-eq0 : goal.returns-then-w-eq0

@@ -1,7 +1,6 @@
 -- `checker::tops::check_plan` meets its contract. Assumes nothing.
 use Rattle.checker.proofs.Topping.{plan-at, plan-refused, plan-tops, refused-first, refused-second, refused-third, all_read}
 use Rattle.layout.proofs.Whole.{layout-at, layout-refused}
-use borrow.Author.Rules.{rules}
 use Rattle.checker.proofs.tops.check_plan.Goals as goal
 
 pub check_read-requires : goal.check_read-requires

@@ -1,7 +1,6 @@
 -- `checker::tops::check_read` meets its contract. Assumes nothing.
 use Rattle.checker.proofs.Required.{types_refused, plan-passed, marks-met, marks-missed}
 use Rattle.layout.specs.Tree.{fields_of}
-use borrow.Author.Rules.{rules}
 use Rattle.checker.proofs.tops.check_read.Goals as goal
 
 pub check_types-requires : goal.check_types-requires

@@ -5,7 +5,6 @@ use Rattle.plan.proofs.Skipping.{skips-none}
 use Rattle.layout.specs.Tree.{fields_of}
 use lib.Seq.{length-take-le}
 use mathlib.Core.Path.{sym}
-use borrow.Author.Rules.{rules}
 use Rattle.checker.proofs.tops.check_types.Goals as goal
 
 pub fits_target-requires : goal.fits_target-requires
@@ -33,9 +32,13 @@ slice_bounds-check_each-end c =
 
 pub check_each-requires : goal.check_each-requires
 check_each-requires c =
-    record { tables = tables_made c.read_selectors.new.skips c.index_columns-len.new.starts _ c.read_selectors.ensures.skips.1
+    record {
+      tables = tables_made c.read_selectors.new.skips c.index_columns-len.new.starts _ c.read_selectors.ensures.skips.1
           c.index_columns-len.ensures.upper_bound c.read_selectors.ensures.skips.0 c.stride_of.ensures.value
-          c.index_columns-len.ensures.indexed; tops_at = c.requires.tops_at; columns_at = c.requires.columns_at }
+          c.index_columns-len.ensures.indexed;
+      tops_at = c.requires.tops_at;
+      columns_at = c.requires.columns_at;
+    }
 
 pub returns : goal.returns
 returns c =

@@ -1,6 +1,5 @@
 -- `checker::tops::meets_target` meets its contract. Assumes nothing.
 use Rattle.checker.proofs.Required.{older_meets, one_older, two_older}
-use borrow.Author.Rules.{rules}
 use Rattle.checker.proofs.tops.meets_target.Goals as goal
 
 pub returns-in-One : goal.returns-in-One

@@ -1,7 +1,5 @@
 use Rattle.composed.proofs.Composing.{composed_as, input_by, same_at, not_settled, in_first, in_second}
 use native.Mathlib.Omega.{arith}
-use borrow.Author.Rules.{rules}
-use Prim.Native.Nat.{ℕ, ◌-◌, ◌<◌}
 use Rattle.composed.proofs.compose.+compose_value.Goals as goal
 
 pub returns-then-leaf-c : goal.returns-then-leaf-c
@@ -19,11 +17,16 @@ compose_value-requires t c =
 
 pub compose_over-requires : goal.compose_over-requires
 compose_over-requires t c =
-    let (Γ, ρ, A, L, C) = c.requires.fits_all_over in let I = input_by (c.input_of.ensures c.requires.selector_at) c.in-At.is in let K = in_first (c.compose_value.ensures Γ ρ L I.input A C) c.in-First.is in record { raw_at = K.raw; selector_at = c.requires.selector_at; lay_len_bound = (
-            omega (arith, c.compose_value.auto, c.requires.plan_len_bound, c.requires.form_len_bound, c.requires.other_form_len_bound),
-            omega (arith, c.compose_value.auto, c.requires.plan_len_bound, c.requires.form_len_bound, c.requires.other_form_len_bound),
-            c.requires.plan_len_bound,
-          ); form_len_bound = (omega (arith, c.compose_value.auto, c.requires.plan_len_bound, c.requires.form_len_bound, c.requires.other_form_len_bound), omega (arith, c.compose_value.auto, c.requires.plan_len_bound, c.requires.form_len_bound, c.requires.other_form_len_bound)) }
+    let (Γ, ρ, A, L, C) = c.requires.fits_all_over in let I = input_by (c.input_of.ensures c.requires.selector_at) c.in-At.is in let K = in_first (c.compose_value.ensures Γ ρ L I.input A C) c.in-First.is in record {
+      raw_at = K.raw;
+      selector_at = c.requires.selector_at;
+      lay_len_bound = (
+        omega (arith, c.compose_value.auto, c.requires.plan_len_bound, c.requires.form_len_bound, c.requires.other_form_len_bound),
+        omega (arith, c.compose_value.auto, c.requires.plan_len_bound, c.requires.form_len_bound, c.requires.other_form_len_bound),
+        c.requires.plan_len_bound,
+      );
+      form_len_bound = (omega (arith, c.compose_value.auto, c.requires.plan_len_bound, c.requires.form_len_bound, c.requires.other_form_len_bound), omega (arith, c.compose_value.auto, c.requires.plan_len_bound, c.requires.form_len_bound, c.requires.other_form_len_bound));
+    }
 
 pub returns-then-compose_over : goal.returns-then-compose_over
 returns-then-compose_over t c =
@@ -36,11 +39,16 @@ returns-then-compose_over t c =
 
 pub compose_over-requires-in-Second : goal.compose_over-requires-in-Second
 compose_over-requires-in-Second t c =
-    let (Γ, ρ, A, L, C) = c.requires.fits_all_over in let I = input_by (c.input_of.ensures c.requires.selector_at) c.in-At.is in let K = in_second (c.compose_value.ensures Γ ρ L I.input A C) c.in-Second.is in record { raw_at = K.raw; selector_at = c.requires.selector_at; lay_len_bound = (
-            omega (arith, c.compose_value.auto, c.requires.plan_len_bound, c.requires.form_len_bound, c.requires.other_form_len_bound),
-            omega (arith, c.compose_value.auto, c.requires.plan_len_bound, c.requires.form_len_bound, c.requires.other_form_len_bound),
-            c.requires.plan_len_bound,
-          ); form_len_bound = (omega (arith, c.compose_value.auto, c.requires.plan_len_bound, c.requires.form_len_bound, c.requires.other_form_len_bound), omega (arith, c.compose_value.auto, c.requires.plan_len_bound, c.requires.form_len_bound, c.requires.other_form_len_bound)) }
+    let (Γ, ρ, A, L, C) = c.requires.fits_all_over in let I = input_by (c.input_of.ensures c.requires.selector_at) c.in-At.is in let K = in_second (c.compose_value.ensures Γ ρ L I.input A C) c.in-Second.is in record {
+      raw_at = K.raw;
+      selector_at = c.requires.selector_at;
+      lay_len_bound = (
+        omega (arith, c.compose_value.auto, c.requires.plan_len_bound, c.requires.form_len_bound, c.requires.other_form_len_bound),
+        omega (arith, c.compose_value.auto, c.requires.plan_len_bound, c.requires.form_len_bound, c.requires.other_form_len_bound),
+        c.requires.plan_len_bound,
+      );
+      form_len_bound = (omega (arith, c.compose_value.auto, c.requires.plan_len_bound, c.requires.form_len_bound, c.requires.other_form_len_bound), omega (arith, c.compose_value.auto, c.requires.plan_len_bound, c.requires.form_len_bound, c.requires.other_form_len_bound));
+    }
 
 pub returns-then-compose_over-2 : goal.returns-then-compose_over-2
 returns-then-compose_over-2 t c =

@@ -2,19 +2,22 @@ use Rattle.composed.proofs.Composing.{row_fits, formed_at, row-scope, composed_a
 use Rattle.transfer.proofs.Rows.{taken-node}
 use native.Mathlib.Omega.{arith}
 use Rattle.layout.proofs.Ways.{clash}
-use borrow.Author.Rules.{rules}
 use Rattle.composed.proofs.compose.compose_leaf.Goals as goal
 
 pub infer_leaf-requires : goal.infer_leaf-requires
 infer_leaf-requires c =
-    record { source_at = row-scope c.requires.row_in c.requires.indexed_in; selector_at = c.requires.selector_at; s_len_bound = (
-          omega (arith, c.requires.lay_len_bound, c.requires.form_len_bound),
-          omega (arith, c.requires.lay_len_bound, c.requires.form_len_bound),
-          omega
-              (arith, c.requires.lay_len_bound, c.requires.form_len_bound),
-          omega arith,
-          omega arith,
-        ) }
+    record {
+      source_at = row-scope c.requires.row_in c.requires.indexed_in;
+      selector_at = c.requires.selector_at;
+      s_len_bound = (
+        omega (arith, c.requires.lay_len_bound, c.requires.form_len_bound),
+        omega (arith, c.requires.lay_len_bound, c.requires.form_len_bound),
+        omega
+            (arith, c.requires.lay_len_bound, c.requires.form_len_bound),
+        omega arith,
+        omega arith,
+      );
+    }
 
 pub indexed_value-at-requires : goal.indexed_value-at-requires
 indexed_value-at-requires c =
@@ -22,11 +25,16 @@ indexed_value-at-requires c =
 
 pub transfer-requires : goal.transfer-requires
 transfer-requires c =
-    record { ends = c.requires.ends; node_in = (_, c.indexed_value-at.ensures c.requires.row_in); selector_at = c.requires.selector_at; rec_len_bound = (
-            omega (arith, c.requires.lay_len_bound, c.requires.form_len_bound),
-            omega (arith, c.requires.lay_len_bound, c.requires.form_len_bound),
-            omega arith,
-          ) }
+    record {
+      ends = c.requires.ends;
+      node_in = (_, c.indexed_value-at.ensures c.requires.row_in);
+      selector_at = c.requires.selector_at;
+      rec_len_bound = (
+        omega (arith, c.requires.lay_len_bound, c.requires.form_len_bound),
+        omega (arith, c.requires.lay_len_bound, c.requires.form_len_bound),
+        omega arith,
+      );
+    }
 
 pub returns-in-Is : goal.returns-in-Is
 returns-in-Is c =

@@ -1,7 +1,6 @@
 use Rattle.composed.proofs.Composing.{formed_at, composed_answer}
 use native.Mathlib.Omega.{arith}
 use Rattle.layout.proofs.Ways.{clash}
-use borrow.Author.Rules.{rules}
 use Rattle.composed.proofs.compose.compose_over.Goals as goal
 
 pub infer_over-requires : goal.infer_over-requires

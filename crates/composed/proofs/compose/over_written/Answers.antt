@@ -1,7 +1,6 @@
 use Rattle.composed.proofs.Composing.{raw-is}
 use Rattle.ends.proofs.Entries.{ends-none}
 use mathlib.Core.Path.{refl}
-use borrow.Author.Rules.{rules}
 use Rattle.composed.proofs.compose.over_written.Goals as goal
 
 pub transfer_over-requires : goal.transfer_over-requires

@@ -1,5 +1,4 @@
 use Rattle.layout.proofs.Ways.{clash}
-use borrow.Author.Rules.{rules}
 use Rattle.composed.proofs.compose.stored_within.Goals as goal
 
 pub returns-in-Unknown : goal.returns-in-Unknown

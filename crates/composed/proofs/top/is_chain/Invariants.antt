@@ -1,9 +1,6 @@
-use Rattle.composed.proofs.Chains.{cast-falls, rename-falls}
-use Rattle.walk.proofs.Heads.{is-cast, is-rename}
 use Rattle.walk.specs.code.Stands.{SelectorAt}
 use lib.ListN.{length}
 use Prim.Native.Nat.{◌-◌}
-use borrow.Author.Rules.{rules}
 use Rattle.composed.proofs.top.is_chain.Given as goal
 
 abbrev pub invariant-loop-input : goal.invariant-loop-input

@@ -1,7 +1,6 @@
 use Rattle.composed.proofs.Composing.{row_fits, composed_as, in_first, in_second}
 use borrow.Author.Tests.{not-false}
 use native.Mathlib.Omega.{arith}
-use borrow.Author.Rules.{rules}
 use mathlib.Core.Path.{ap}
 use mathlib.Core.Bool.{not}
 use Rattle.composed.proofs.top.over_large.Goals as goal
@@ -12,11 +11,17 @@ compose_leaf-requires c =
 
 pub compose_value-requires : goal.compose_value-requires
 compose_value-requires c =
-    let (P, I) = c.requires.input_at in let A = row_fits (λ i. omega (arith, c.type_inv.rec i)) c.requires.row_in in let C = c.compose_leaf.ensures (not-false _ (ap not c.if-not-compose_leaf.false)) c.requires.row_in c.requires.selector_at in record { selector_at = I.input; fits_all_over = (_, _, A, c.requires.selector_at, C); plan_len_bound = c.requires.lay_len_bound.2; form_len_bound = (omega (arith, c.compose_leaf.auto), omega (arith, c.compose_leaf.auto)); other_form_len_bound = (
-              omega
-                  arith,
-              omega arith,
-            ) }
+    let (P, I) = c.requires.input_at in let A = row_fits (λ i. omega (arith, c.type_inv.rec i)) c.requires.row_in in let C = c.compose_leaf.ensures (not-false _ (ap not c.if-not-compose_leaf.false)) c.requires.row_in c.requires.selector_at in record {
+      selector_at = I.input;
+      fits_all_over = (_, _, A, c.requires.selector_at, C);
+      plan_len_bound = c.requires.lay_len_bound.2;
+      form_len_bound = (omega (arith, c.compose_leaf.auto), omega (arith, c.compose_leaf.auto));
+      other_form_len_bound = (
+        omega
+            arith,
+        omega arith,
+      );
+    }
 
 pub over_written-requires : goal.over_written-requires
 over_written-requires c =

@@ -1,7 +1,6 @@
 use Rattle.composed.proofs.Composing.{input_by}
 use Rattle.transfer.proofs.Rows.{taken-node}
 use native.Mathlib.Omega.{arith}
-use borrow.Author.Rules.{rules}
 use Rattle.composed.proofs.top.transfer_top.Goals as goal
 
 pub indexed_value-at-requires : goal.indexed_value-at-requires

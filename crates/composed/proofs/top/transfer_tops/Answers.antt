@@ -1,12 +1,7 @@
-use Rattle.transfer.proofs.Rows.{Running, running_none, running-ends, running-all, running-head, running_more}
+use Rattle.transfer.proofs.Rows.{running_none, running-ends, running-all, running-head, running_more}
 use Rattle.transfer.proofs.Reaching.{unknown, reached_end, reached_to}
-use Rattle.index.specs.code.Indexed.{RowIn}
-use Rattle.walk.specs.code.Stands.{SelectorsAt}
-use lib.ListN.{length}
-use borrow.Author.Rules.{rules}
 use native.Mathlib.Omega.{arith}
-use mathlib.Core.Path.{◌≡◌, refl, ◌∙◌}
-use Prim.Native.Nat.{◌-◌, ◌≤◌}
+use mathlib.Core.Path.{refl, ◌∙◌}
 use Rattle.composed.proofs.top.transfer_tops.Goals as goal
 
 pub loop-i-init : goal.loop-i-init

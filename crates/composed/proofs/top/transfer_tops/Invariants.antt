@@ -1,11 +1,8 @@
-use Rattle.transfer.proofs.Rows.{Running, running_none, running-ends, running-all, running-head, running_more}
-use Rattle.transfer.proofs.Reaching.{unknown, reached_end, reached_to}
+use Rattle.transfer.proofs.Rows.{Running}
 use Rattle.index.specs.code.Indexed.{RowIn}
 use Rattle.walk.specs.code.Stands.{SelectorsAt}
 use lib.ListN.{length}
-use borrow.Author.Rules.{rules}
-use native.Mathlib.Omega.{arith}
-use mathlib.Core.Path.{◌≡◌, refl, ◌∙◌}
+use mathlib.Core.Path.{◌≡◌}
 use Prim.Native.Nat.{◌-◌, ◌≤◌}
 use Rattle.composed.proofs.top.transfer_tops.Given as goal
 

@@ -1,5 +1,4 @@
 use Rattle.transfer.proofs.Reaching.{reached_to}
-use borrow.Author.Rules.{rules}
 use Rattle.composed.proofs.whole.output_of.Goals as goal
 
 pub returns-in-To : goal.returns-in-To

@@ -1,7 +1,6 @@
 use native.Mathlib.Omega.{arith}
 use mathlib.Core.Path.{refl}
 use Rattle.index.proofs.Empty.{row-indexed-none}
-use borrow.Author.Rules.{rules}
 use Rattle.composed.proofs.whole.transfer_few.Goals as goal
 
 pub transfer_tops-requires : goal.transfer_tops-requires

@@ -1,4 +1,3 @@
-use borrow.Author.Rules.{rules}
 use Rattle.composed.proofs.whole.transfer_record.Goals as goal
 
 pub returns-then-few : goal.returns-then-few

@@ -1,6 +1,5 @@
 -- `convert::leaf::convert_datetime` meets its contract: a law for each kind of target. Assumes nothing.
 use Rattle.convert.proofs.Pairs.{datetime-integer, datetime-float, datetime-datetime, datetime-other}
-use borrow.Author.Rules.{rules}
 use Rattle.convert.proofs.leaf.convert_datetime.Goals as goal
 
 pub rescale-requires : goal.rescale-requires

@@ -1,6 +1,5 @@
 -- `convert::leaf::convert_float` meets its contract: a law for each kind of target. Assumes nothing.
 use Rattle.convert.proofs.Pairs.{float-integer, float-float, float-datetime, float-other}
-use borrow.Author.Rules.{rules}
 use Rattle.convert.proofs.leaf.convert_float.Goals as goal
 
 pub returns-in-Integer : goal.returns-in-Integer

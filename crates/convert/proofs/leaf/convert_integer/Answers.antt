@@ -1,6 +1,5 @@
 -- `convert::leaf::convert_integer` meets its contract: a law for each kind of target. Assumes nothing.
 use Rattle.convert.proofs.Pairs.{integer-integer, integer-float, integer-datetime, integer-other}
-use borrow.Author.Rules.{rules}
 use Rattle.convert.proofs.leaf.convert_integer.Goals as goal
 
 pub returns-in-Integer : goal.returns-in-Integer

@@ -1,6 +1,5 @@
 -- `convert::leaf::convert_leaf` meets its contract: a law for each kind of number. Assumes nothing.
 use Rattle.convert.proofs.Pairs.{from_integer_lem, from_float, from-datetime, from-other}
-use borrow.Author.Rules.{rules}
 use Rattle.convert.proofs.leaf.convert_leaf.Goals as goal
 
 pub returns-in-Integer : goal.returns-in-Integer

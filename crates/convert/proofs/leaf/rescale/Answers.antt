@@ -1,6 +1,5 @@
 -- `convert::leaf::rescale` meets its contract: a law for each change of unit. Assumes nothing.
 use Rattle.convert.proofs.Pairs.{multiplies, divides, rescaled-count, rescaled-over, rescaled-down, rescaled-same}
-use borrow.Author.Rules.{rules}
 use Rattle.convert.proofs.leaf.rescale.Goals as goal
 
 pub multiply-requires : goal.multiply-requires

@@ -1,9 +1,11 @@
 -- `convert::put::put_number` meets its contract: presence, then the number's bytes. Assumes nothing.
 use Rattle.convert.proofs.Pairs.{number-long, number-stored}
-use borrow.Author.Rules.{rules}
 use Rattle.convert.proofs.put.put_number.Goals as goal
 
 pub returns : goal.returns
 returns c =
-    record { value = number-long c.args.kind _ c.width-w.ensures.0; out_after = number-stored c.args.kind _ _ _ c.width-w.ensures.0 c.put.ensures
-          c.put_number.ensures }
+    record {
+      value = number-long c.args.kind _ c.width-w.ensures.0;
+      out_after = number-stored c.args.kind _ _ _ c.width-w.ensures.0 c.put.ensures
+          c.put_number.ensures;
+    }

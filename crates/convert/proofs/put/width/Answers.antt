@@ -3,7 +3,6 @@ use Rattle.convert.proofs.Pairs.{width_is}
 use Rattle.values.specs.declared.content.Content.{Content}
 use Rattle.values.specs.Content.{width_in}
 use mathlib.Core.Path.{sym, ap}
-use borrow.Author.Rules.{rules}
 use Rattle.convert.proofs.put.width.Goals as goal
 
 pub returns-in-Nothing : goal.returns-in-Nothing

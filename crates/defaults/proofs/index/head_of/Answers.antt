@@ -2,7 +2,6 @@
 use mathlib.Core.Path.{refl}
 use native.Mathlib.Omega.{arith}
 use Rattle.defaults.proofs.Indexing.{head-place}
-use borrow.Author.Rules.{rules}
 use Rattle.defaults.proofs.index.head_of.Goals as goal
 
 pub overflow_add-result : goal.overflow_add-result

@@ -1,5 +1,4 @@
 -- `defaults::index::push` meets its contract. Assumes nothing.
-use borrow.Author.Rules.{rules}
 use Rattle.defaults.proofs.index.push.Goals as goal
 
 pub returns : goal.returns

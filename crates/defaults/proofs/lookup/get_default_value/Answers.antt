@@ -1,7 +1,6 @@
 -- `defaults::lookup::get_default_value` meets its contract: the two lookups make the definition, by the laws of
 -- `Seeking`. Assumes nothing.
 use native.Mathlib.Omega.{arith}
-use borrow.Author.Rules.{rules}
 use Rattle.defaults.specs.declared.read.EntryKind.TheVariants.{Initial, Partition}
 use Rattle.defaults.proofs.Indexing.{own_found}
 use Rattle.defaults.proofs.Seeking.{partition-found, partition_wins, initial-found, initial-wins, no-entry, no_entries}

@@ -1,5 +1,4 @@
 -- `defaults::lookup::initial_value` meets its contract: each answer has its law in `Taking`. Assumes nothing.
-use borrow.Author.Rules.{rules}
 use Rattle.defaults.proofs.Taking.{zone_in, initial_never, initial-value, initial-taken}
 use Rattle.defaults.proofs.lookup.initial_value.Goals as goal
 

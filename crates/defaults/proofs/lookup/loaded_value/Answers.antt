@@ -1,12 +1,14 @@
 -- `defaults::lookup::loaded_value` meets its contract: each answer has its law in `Taking`. Assumes nothing.
-use borrow.Author.Rules.{rules}
 use Rattle.defaults.proofs.Taking.{zone_in, loaded_never, loaded-uncounted, loaded-values, loaded-taken}
 use Rattle.defaults.proofs.lookup.loaded_value.Goals as goal
 
 pub of_source-requires : goal.of_source-requires
 of_source-requires c =
-    record { span_in = zone_in _ c.read_leaf_type.ensures.leaf_in c.in-Is.is; each_at = loaded-values c.requires c.read_leaf_type.ensures.result_value c.in-Is.is
-          c.short.ensures c.in-Is-short.is }
+    record {
+      span_in = zone_in _ c.read_leaf_type.ensures.leaf_in c.in-Is.is;
+      each_at = loaded-values c.requires c.read_leaf_type.ensures.result_value c.in-Is.is
+          c.short.ensures c.in-Is-short.is;
+    }
 
 pub returns-in-Is-short : goal.returns-in-Is-short
 returns-in-Is-short c =

@@ -1,5 +1,4 @@
 -- `defaults::lookup::of_source` meets its contract: each answer has its law in `Taking`. Assumes nothing.
-use borrow.Author.Rules.{rules}
 use Rattle.defaults.proofs.Taking.{source_none, source_stuck, source-value, source_taken}
 use Rattle.defaults.proofs.lookup.of_source.Goals as goal
 

@@ -1,5 +1,4 @@
 -- `defaults::lookup::partition_value` meets its contract: each answer has its law in `Taking`. Assumes nothing.
-use borrow.Author.Rules.{rules}
 use Rattle.defaults.proofs.Taking.{load_never, load-loaded, load-taken, load_failed}
 use Rattle.defaults.proofs.lookup.partition_value.Goals as goal
 

@@ -1,5 +1,4 @@
 -- `defaults::lookup::unless_null` meets its contract: each answer has its law in `Taking`. Assumes nothing.
-use borrow.Author.Rules.{rules}
 use Rattle.defaults.proofs.Taking.{null-taken, present-taken, never_taken}
 use Rattle.defaults.proofs.lookup.unless_null.Goals as goal
 

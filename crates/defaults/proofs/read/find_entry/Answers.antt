@@ -1,7 +1,6 @@
 -- `defaults::read::find_entry` meets its contract: the loop keeps `Following`. Assumes nothing.
-use Prim.Native.Nat.{◌-◌}
 use native.Mathlib.Omega.{arith}
-use Rattle.defaults.proofs.Indexing.{Following, following_none, following_all, following-end, following-broken, following-found, following-more}
+use Rattle.defaults.proofs.Indexing.{following_none, following_all, following-end, following-broken, following-found, following-more}
 use borrow.Author.Rules.{rules}
 use Rattle.defaults.proofs.read.find_entry.Goals as goal
 

@@ -1,7 +1,5 @@
 use Prim.Native.Nat.{◌-◌}
-use native.Mathlib.Omega.{arith}
-use Rattle.defaults.proofs.Indexing.{Following, following_none, following_all, following-end, following-broken, following-found, following-more}
-use borrow.Author.Rules.{rules}
+use Rattle.defaults.proofs.Indexing.{Following}
 use Rattle.defaults.proofs.read.find_entry.Given as goal
 
 abbrev pub invariant-loop-i : goal.invariant-loop-i

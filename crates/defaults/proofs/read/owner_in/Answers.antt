@@ -1,5 +1,4 @@
 -- `defaults::read::owner_in` meets its contract. Assumes nothing.
-use borrow.Author.Rules.{rules}
 use Rattle.defaults.proofs.read.owner_in.Goals as goal
 
 pub returns-in-ByOwner : goal.returns-in-ByOwner

@@ -1,13 +1,12 @@
 -- `defaults::read::read_entries` meets its contract: the loop keeps `Filling`. Assumes nothing.
-use Prim.Native.Nat.{ℕ, ◌-◌}
-use mathlib.Core.Path.{◌≡◌, refl, ap, ◌∙◌}
+use Prim.Native.Nat.{ℕ}
+use mathlib.Core.Path.{refl, ap, ◌∙◌}
 use mathlib.Core.List.{List}
 use native.Mathlib.Omega.{arith}
 use lib.ListN.{length}
 use Rattle.layout.proofs.Ways.{clash}
-use Rattle.defaults.proofs.Indexing.{Filling, filling_start, filling_all, filling_end, filling-broken, filling-inside, filling-repeated, filling-more}
+use Rattle.defaults.proofs.Indexing.{filling_start, filling_all, filling_end, filling-broken, filling-inside, filling-repeated, filling-more}
 use Rattle.defaults.proofs.Indexing.{pushed-length}
-use borrow.Author.Rules.{rules}
 use Rattle.defaults.proofs.read.read_entries.Goals as goal
 
 pub loop-i-init : goal.loop-i-init
@@ -20,8 +19,11 @@ find_entry-earlier-requires c =
 
 pub returns-then-is_found : goal.returns-then-is_found
 returns-then-is_found c =
-    record { value = filling-repeated c.loop-i.invariant.1 c.loop-i-test.true c.read_entry.ensures c.in-Is.is c.find_entry-earlier.ensures
-          c.is_found.ensures c.if-is_found.true; indexed = λ e h. clash (cc) }
+    record {
+      value = filling-repeated c.loop-i.invariant.1 c.loop-i-test.true c.read_entry.ensures c.in-Is.is c.find_entry-earlier.ensures
+          c.is_found.ensures c.if-is_found.true;
+      indexed = λ e h. clash (cc);
+    }
 
 pub push-requires : goal.push-requires
 push-requires c =
@@ -40,13 +42,12 @@ loop-i-smaller c =
     omega arith
 
 pub loop-i-preserved : goal.loop-i-preserved
-loop-i-preserved c =
-    (
-      ap (λ (l : List ℕ). length l) c.push.ensures ∙ pushed-length (length c.args.s.now) c.loop-i.d.at c.in-Is.id
-          c.loop-i.index ∙ c.loop-i.invariant.0,
-      filling-more c.loop-i.invariant.1 c.loop-i-test.true c.read_entry.ensures c.in-Is.is
-          c.find_entry-earlier.ensures c.is_found.ensures c.if-is_found.false c.push.ensures,
-    )
+loop-i-preserved c = (
+  ap (λ (l : List ℕ). length l) c.push.ensures ∙ pushed-length (length c.args.s.now) c.loop-i.d.at c.in-Is.id
+      c.loop-i.index ∙ c.loop-i.invariant.0,
+  filling-more c.loop-i.invariant.1 c.loop-i-test.true c.read_entry.ensures c.in-Is.is
+      c.find_entry-earlier.ensures c.is_found.ensures c.if-is_found.false c.push.ensures,
+)
 
 pub returns : goal.returns
 returns c =

@@ -1,8 +1,7 @@
 -- `defaults::types::read_leaf_values` meets its contract: the loop keeps `Repeating`. Assumes nothing.
 use borrow.Author.Rules.{rules}
 use native.Mathlib.Omega.{arith}
-use Prim.Native.Nat.{◌-◌}
-use Rattle.defaults.proofs.Ways.{Repeating, repeating_none, repeating_all, repeating-stopped, repeating-more}
+use Rattle.defaults.proofs.Ways.{repeating_none, repeating_all, repeating-stopped, repeating-more}
 use Rattle.defaults.proofs.types.read_leaf_values.Goals as goal
 
 pub loop-i-init : goal.loop-i-init

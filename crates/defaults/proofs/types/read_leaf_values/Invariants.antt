@@ -1,7 +1,5 @@
-use borrow.Author.Rules.{rules}
-use native.Mathlib.Omega.{arith}
 use Prim.Native.Nat.{◌-◌}
-use Rattle.defaults.proofs.Ways.{Repeating, repeating_none, repeating_all, repeating-stopped, repeating-more}
+use Rattle.defaults.proofs.Ways.{Repeating}
 use Rattle.defaults.proofs.types.read_leaf_values.Given as goal
 
 abbrev pub invariant-loop-i : goal.invariant-loop-i

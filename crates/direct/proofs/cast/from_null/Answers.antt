@@ -1,6 +1,5 @@
 -- `direct::cast::from_null` meets its contract. Assumes nothing.
 use Rattle.direct.proofs.Casting.{null_nonstrict, null_strict, null-overflowing}
-use borrow.Author.Rules.{rules}
 use Rattle.direct.proofs.cast.from_null.Goals as goal
 
 pub returns-in-NonStrict : goal.returns-in-NonStrict

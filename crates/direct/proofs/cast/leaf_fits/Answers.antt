@@ -1,7 +1,6 @@
 -- `direct::cast::leaf_fits` meets its contract. Assumes nothing.
 use Rattle.layout.proofs.View.{never_headless}
 use Rattle.direct.proofs.Casting.{leaf-passes, struct_passes, list-passes, array-passes, head_zone}
-use borrow.Author.Rules.{rules}
 use Rattle.direct.proofs.cast.leaf_fits.Goals as goal
 
 pub pair_passes-requires : goal.pair_passes-requires

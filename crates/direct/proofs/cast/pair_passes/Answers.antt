@@ -1,6 +1,5 @@
 -- `direct::cast::pair_passes` meets its contract. Assumes nothing.
 use Rattle.direct.proofs.Casting.{pair_spans}
-use borrow.Author.Rules.{rules}
 use Rattle.direct.proofs.cast.pair_passes.Goals as goal
 
 pub returns : goal.returns

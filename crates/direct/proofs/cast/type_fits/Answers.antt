@@ -2,7 +2,6 @@
 use Rattle.layout.proofs.View.{never_headless}
 use Rattle.direct.proofs.Casting.{head_zone, leaf_type-fits, struct_never, list_never, array_never}
 use Rattle.layout.specs.Tree.{dtype_of}
-use borrow.Author.Rules.{rules}
 use Rattle.direct.proofs.cast.type_fits.Goals as goal
 
 pub leaf_fits-requires : goal.leaf_fits-requires

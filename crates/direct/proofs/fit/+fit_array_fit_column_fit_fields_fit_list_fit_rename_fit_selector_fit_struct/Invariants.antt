@@ -1,16 +1,5 @@
-use Rattle.direct.proofs.Rows.{column_asks, column_fits, Fitting, fitting-none, fitting-all, fitting-asks, fitting-more}
-use Rattle.direct.proofs.Fitting.{unknown, none-given, fit_to, gives_to, rename_asks, rename-fits, struct_asks, struct-fits, list_asks, list-fits}
-use Rattle.direct.proofs.Fitting.{array_asks, array-fits}
-use Rattle.direct.proofs.Opening.{both_structs, both_lists, both_arrays}
-use Rattle.direct.proofs.Scoping.{taken_at}
-use Rattle.walk.proofs.Heads.{is-constant, is-cast, is-rename, is_struct_mapping, is_list_mapping, is-array}
-use Rattle.layout.proofs.Ways.{label_in}
-use borrow.Author.Rules.{rules}
-use lib.Seq.{length-take-le}
-use mathlib.Core.Path.{refl, sym}
-use native.Mathlib.Omega.{arith}
-use Prim.Native.Nat.{ℕ, ◌<◌, ◌+◌, ◌-◌, ◌*◌}
-use Prim.Native.Nat.{ℕ, ◌<◌}
+use Rattle.direct.proofs.Rows.{Fitting}
+use Prim.Native.Nat.{◌+◌, ◌-◌, ◌*◌}
 use Rattle.direct.proofs.fit.+fit_array_fit_column_fit_fields_fit_list_fit_rename_fit_selector_fit_struct.Given as goal
 
 abbrev pub decreases-fit_array : goal.decreases-fit_array

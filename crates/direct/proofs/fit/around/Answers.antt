@@ -1,6 +1,5 @@
 -- `direct::fit::around` meets its contract. Assumes nothing.
 use Rattle.direct.proofs.Fitting.{around-is}
-use borrow.Author.Rules.{rules}
 use Rattle.direct.proofs.fit.around.Goals as goal
 
 pub returns-in-Is : goal.returns-in-Is

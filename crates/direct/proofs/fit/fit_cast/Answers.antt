@@ -2,7 +2,6 @@
 use Rattle.direct.proofs.Fitting.{cast-type, cast_fits}
 use Rattle.direct.proofs.Scoping.{taken_at}
 use borrow.Author.Tests.{not-false}
-use borrow.Author.Rules.{rules}
 use mathlib.Core.Path.{ap}
 use mathlib.Core.Bool.{not}
 use Rattle.direct.proofs.fit.fit_cast.Goals as goal

@@ -1,6 +1,5 @@
 -- `direct::fit::fit_constant` meets its contract. Assumes nothing.
 use Rattle.direct.proofs.Fitting.{constant-fits}
-use borrow.Author.Rules.{rules}
 use Rattle.direct.proofs.fit.fit_constant.Goals as goal
 
 pub same_type-requires : goal.same_type-requires

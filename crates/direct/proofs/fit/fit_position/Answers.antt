@@ -1,7 +1,6 @@
 -- `direct::fit::fit_position` meets its contract. Assumes nothing.
 use Rattle.direct.proofs.Fitting.{position-fits}
 use Rattle.direct.proofs.Scoping.{taken_at}
-use borrow.Author.Rules.{rules}
 use Rattle.direct.proofs.fit.fit_position.Goals as goal
 
 pub same_type-requires : goal.same_type-requires

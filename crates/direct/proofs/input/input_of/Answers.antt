@@ -1,6 +1,5 @@
 use Rattle.direct.proofs.Inputs.{cast-input, rename-input, struct-input, list-input, array-input}
 use Rattle.walk.proofs.Heads.{is-cast, is-rename, is_struct_mapping, is_list_mapping, is-array}
-use borrow.Author.Rules.{rules}
 use Rattle.direct.proofs.input.input_of.Goals as goal
 
 pub returns-in-Cast : goal.returns-in-Cast

@@ -1,8 +1,5 @@
-use Rattle.direct.proofs.Inputs.{Inside, inside-start, inside-end, inside-more, inside-falls}
+use Rattle.direct.proofs.Inputs.{inside-start, inside-end, inside-more, inside-falls}
 use Rattle.walk.proofs.Heads.{is-rename}
-use lib.ListN.{length}
-use Prim.Native.Nat.{◌-◌}
-use borrow.Author.Rules.{rules}
 use Rattle.direct.proofs.input.skip_renames.Goals as goal
 
 pub loop-input-init : goal.loop-input-init

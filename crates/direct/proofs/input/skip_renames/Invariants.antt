@@ -1,8 +1,6 @@
-use Rattle.direct.proofs.Inputs.{Inside, inside-start, inside-end, inside-more, inside-falls}
-use Rattle.walk.proofs.Heads.{is-rename}
+use Rattle.direct.proofs.Inputs.{Inside}
 use lib.ListN.{length}
 use Prim.Native.Nat.{◌-◌}
-use borrow.Author.Rules.{rules}
 use Rattle.direct.proofs.input.skip_renames.Given as goal
 
 abbrev pub invariant-loop-input : goal.invariant-loop-input

@@ -1,6 +1,5 @@
 -- `direct::inside::both_inside` meets its contract. Assumes nothing.
 use Rattle.direct.proofs.Opening.{structs_in, lists_in, arrays_in}
-use borrow.Author.Rules.{rules}
 use Rattle.direct.proofs.inside.both_inside.Goals as goal
 
 pub returns-in-Struct-inside_of : goal.returns-in-Struct-inside_of

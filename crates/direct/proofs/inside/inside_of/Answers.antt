@@ -1,6 +1,5 @@
 -- `direct::inside::inside_of` meets its contract. Assumes nothing.
 use Rattle.direct.proofs.Opening.{struct_in, list_in, array_in}
-use borrow.Author.Rules.{rules}
 use Rattle.direct.proofs.inside.inside_of.Goals as goal
 
 pub returns-in-Struct : goal.returns-in-Struct

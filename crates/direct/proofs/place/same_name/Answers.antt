@@ -1,6 +1,5 @@
 -- `direct::place::same_name` meets its contract. Assumes nothing.
 use Rattle.direct.proofs.Naming.{name_incoming, name-plan, named-same}
-use borrow.Author.Rules.{rules}
 use Rattle.direct.proofs.place.same_name.Goals as goal
 
 pub same_text-requires : goal.same_text-requires

@@ -2,7 +2,6 @@
 use mathlib.Core.Path.{refl}
 use native.Mathlib.Omega.{arith}
 use Rattle.index.proofs.Empty.{indexed-none}
-use borrow.Author.Rules.{rules}
 use Rattle.direct.proofs.scope.index_fields.Goals as goal
 
 pub returns-then-m-le8 : goal.returns-then-m-le8

@@ -1,6 +1,5 @@
 -- `direct::scope::take_column` meets its contract. Assumes nothing.
 use Rattle.direct.proofs.Scoping.{scope-columns, scope-element, column-taken, in_element_lem}
-use borrow.Author.Rules.{rules}
 use Rattle.direct.proofs.scope.take_column.Goals as goal
 
 pub indexed_column-requires : goal.indexed_column-requires

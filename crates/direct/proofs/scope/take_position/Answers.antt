@@ -1,7 +1,6 @@
 -- `direct::scope::take_position` meets its contract. Assumes nothing.
 use Rattle.walk.proofs.Heads.{is_position_lem}
 use Rattle.direct.proofs.Scoping.{position_taken, nothing-taken}
-use borrow.Author.Rules.{rules}
 use Rattle.direct.proofs.scope.take_position.Goals as goal
 
 pub returns-in-Position : goal.returns-in-Position

@@ -1,7 +1,6 @@
 -- `direct::scope::taken_from` meets its contract. Assumes nothing.
 use Rattle.direct.specs.code.Scopes.{taken_from}
 use mathlib.Core.Path.{sym, ap}
-use borrow.Author.Rules.{rules}
 use Rattle.direct.proofs.scope.taken_from.Goals as goal
 
 pub returns-in-At : goal.returns-in-At

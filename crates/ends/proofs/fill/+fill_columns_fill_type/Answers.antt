@@ -1,14 +1,10 @@
 -- The proof of the cycle of calls {fill_columns, fill_type}. The measure is 2 for each level left, and 1 more for
 -- columns. `Skipping` and `Ends` hold at the head of the loop. Assumes nothing.
-use Rattle.ends.proofs.Skipping.{Skipping, skipping_none, skipping_all, skipping-first, skipping-unlabelled, skipping-more}
+use Rattle.ends.proofs.Skipping.{skipping_none, skipping_all, skipping-first, skipping-unlabelled, skipping-more}
 use Rattle.ends.proofs.Entries.{end_of, found-is}
-use Rattle.ends.specs.code.Ends.{Ends}
 use Rattle.layout.proofs.View.{deep, leaf_at_lem, struct_at, list_at, array_at, list-labelled, array-labelled, never_headless}
 use native.Mathlib.Omega.{arith}
-use lib.ListN.{length}
-use mathlib.Core.Path.{◌≡◌, refl, ◌∙◌}
-use Prim.Native.Nat.{◌+◌, ◌-◌, ◌*◌, ℕ, ◌<◌}
-use borrow.Author.Rules.{rules}
+use mathlib.Core.Path.{refl, ◌∙◌}
 use Rattle.ends.proofs.fill.+fill_columns_fill_type.Goals as goal
 
 pub fill_columns-loop-i-init : goal.fill_columns-loop-i-init
@@ -34,14 +30,13 @@ fill_columns-loop-i-smaller t c =
     omega arith
 
 pub fill_columns-loop-i-preserved : goal.fill_columns-loop-i-preserved
-fill_columns-loop-i-preserved t c =
-    (
-      skipping-more c.loop-i.invariant.0
-          c.loop-i-test.true c.label.ensures.result_value
-          c.in-Is.is c.fill_type-d.ensures.at_value,
-      c.fill_type-d.ensures.ends_2,
-      c.fill_type-d.ensures.ends_len_unchanged ∙ c.loop-i.invariant.2,
-    )
+fill_columns-loop-i-preserved t c = (
+  skipping-more c.loop-i.invariant.0
+      c.loop-i-test.true c.label.ensures.result_value
+      c.in-Is.is c.fill_type-d.ensures.at_value,
+  c.fill_type-d.ensures.ends_2,
+  c.fill_type-d.ensures.ends_len_unchanged ∙ c.loop-i.invariant.2,
+)
 
 pub fill_columns-returns : goal.fill_columns-returns
 fill_columns-returns t c =
@@ -94,9 +89,13 @@ fill_type-returns-in-Struct t c =
 
 pub fill_type-returns-in-Is : goal.fill_type-returns-in-Is
 fill_type-returns-in-Is t c =
-    record { at_value = (λ P. let L = list_at P c.head.ensures.result_value
+    record {
+      at_value = (λ P. let L = list_at P c.head.ensures.result_value
           c.element_label.ensures.result_value c.in-List.is
-          c.in-Is.is in c.fill_type.ensures.at_value L.inner ∙ L.ends); ends_2 = c.fill_type.ensures.ends_2; ends_len_unchanged = c.fill_type.ensures.ends_len_unchanged }
+          c.in-Is.is in c.fill_type.ensures.at_value L.inner ∙ L.ends);
+      ends_2 = c.fill_type.ensures.ends_2;
+      ends_len_unchanged = c.fill_type.ensures.ends_len_unchanged;
+    }
 
 pub fill_type-returns-in-Refused-element_label : goal.fill_type-returns-in-Refused-element_label
 fill_type-returns-in-Refused-element_label t c =
@@ -104,9 +103,13 @@ fill_type-returns-in-Refused-element_label t c =
 
 pub fill_type-returns-in-Is-element_label : goal.fill_type-returns-in-Is-element_label
 fill_type-returns-in-Is-element_label t c =
-    record { at_value = (λ P. let L = array_at P c.head.ensures.result_value
+    record {
+      at_value = (λ P. let L = array_at P c.head.ensures.result_value
           c.element_label-in-Array.ensures.result_value c.in-Array.is
-          c.in-Is-element_label.is in c.fill_type-in-Is-element_label.ensures.at_value L.inner ∙ L.ends); ends_2 = c.fill_type-in-Is-element_label.ensures.ends_2; ends_len_unchanged = c.fill_type-in-Is-element_label.ensures.ends_len_unchanged }
+          c.in-Is-element_label.is in c.fill_type-in-Is-element_label.ensures.at_value L.inner ∙ L.ends);
+      ends_2 = c.fill_type-in-Is-element_label.ensures.ends_2;
+      ends_len_unchanged = c.fill_type-in-Is-element_label.ensures.ends_len_unchanged;
+    }
 
 pub fill_type-returns-in-Refused-element_label-2 : goal.fill_type-returns-in-Refused-element_label-2
 fill_type-returns-in-Refused-element_label-2 t c =

@@ -1,12 +1,8 @@
-use Rattle.ends.proofs.Skipping.{Skipping, skipping_none, skipping_all, skipping-first, skipping-unlabelled, skipping-more}
-use Rattle.ends.proofs.Entries.{end_of, found-is}
+use Rattle.ends.proofs.Skipping.{Skipping}
 use Rattle.ends.specs.code.Ends.{Ends}
-use Rattle.layout.proofs.View.{deep, leaf_at_lem, struct_at, list_at, array_at, list-labelled, array-labelled, never_headless}
-use native.Mathlib.Omega.{arith}
 use lib.ListN.{length}
-use mathlib.Core.Path.{◌≡◌, refl, ◌∙◌}
-use Prim.Native.Nat.{◌+◌, ◌-◌, ◌*◌, ℕ, ◌<◌}
-use borrow.Author.Rules.{rules}
+use mathlib.Core.Path.{◌≡◌}
+use Prim.Native.Nat.{◌+◌, ◌-◌, ◌*◌}
 use Rattle.ends.proofs.fill.+fill_columns_fill_type.Given as goal
 
 abbrev pub decreases-fill_columns : goal.decreases-fill_columns

@@ -1,6 +1,5 @@
 -- `ends::local::fill_local` meets its contract: a table that is true is filled. Assumes nothing.
 use mathlib.Core.Path.{◌∙◌}
-use borrow.Author.Rules.{rules}
 use Rattle.ends.proofs.local.fill_local.Goals as goal
 
 pub fill_type-requires : goal.fill_type-requires

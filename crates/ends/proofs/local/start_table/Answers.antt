@@ -1,8 +1,7 @@
 -- `ends::local::start_table` meets its contract: a table without entries is true, whatever its starts are counted from.
 -- Assumes nothing.
 use Rattle.ends.proofs.Entries.{ends-clear, ends-started}
-use mathlib.Core.Path.{refl, ◌∙◌}
-use lib.ListN.{length-set}
+use mathlib.Core.Path.{refl}
 use borrow.Author.Rules.{rules}
 use Rattle.ends.proofs.local.start_table.Goals as goal
 

@@ -2,7 +2,6 @@
 use Rattle.layout.proofs.View.{plain_at}
 use Rattle.ends.proofs.Entries.{end_of}
 use mathlib.Core.Path.{sym, ◌∙◌}
-use borrow.Author.Rules.{rules}
 use Rattle.ends.proofs.plain.plain_end.Goals as goal
 
 pub returns-in-Known : goal.returns-in-Known

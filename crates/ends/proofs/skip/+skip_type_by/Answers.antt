@@ -3,8 +3,6 @@ use Rattle.ends.proofs.Entries.{found-is}
 use Rattle.layout.proofs.View.{deep, leaf_at_lem, list_at, array_at, list-labelled, array-labelled, never_headless}
 use native.Mathlib.Omega.{arith}
 use mathlib.Core.Path.{◌∙◌}
-use borrow.Author.Rules.{rules}
-use Prim.Native.Nat.{ℕ, ◌<◌}
 use Rattle.ends.proofs.skip.+skip_type_by.Goals as goal
 
 pub returns-in-At : goal.returns-in-At

@@ -1,8 +1,6 @@
 -- `ends::skip::skip_columns_by` meets its contract: the loop keeps `Skipping`. Assumes nothing.
-use Rattle.ends.proofs.Skipping.{Skipping, skipping_none, skipping_all, skipping-first, skipping-unlabelled, skipping-more}
+use Rattle.ends.proofs.Skipping.{skipping_none, skipping_all, skipping-first, skipping-unlabelled, skipping-more}
 use native.Mathlib.Omega.{arith}
-use Prim.Native.Nat.{◌-◌}
-use borrow.Author.Rules.{rules}
 use Rattle.ends.proofs.skip.skip_columns_by.Goals as goal
 
 pub loop-i-init : goal.loop-i-init

@@ -1,7 +1,5 @@
-use Rattle.ends.proofs.Skipping.{Skipping, skipping_none, skipping_all, skipping-first, skipping-unlabelled, skipping-more}
-use native.Mathlib.Omega.{arith}
+use Rattle.ends.proofs.Skipping.{Skipping}
 use Prim.Native.Nat.{◌-◌}
-use borrow.Author.Rules.{rules}
 use Rattle.ends.proofs.skip.skip_columns_by.Given as goal
 
 abbrev pub invariant-loop-i : goal.invariant-loop-i

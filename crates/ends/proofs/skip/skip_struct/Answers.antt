@@ -1,6 +1,5 @@
 -- `ends::skip::skip_struct` meets its contract: two readings of a struct end alike. Assumes nothing.
 use Rattle.ends.proofs.Entries.{found-is}
-use borrow.Author.Rules.{rules}
 use Rattle.ends.proofs.skip.skip_struct.Goals as goal
 
 pub returns-in-At : goal.returns-in-At

@@ -1,7 +1,6 @@
 -- `ends::table::find_end` meets its contract: what an entry that is true says. Assumes nothing.
 use native.Mathlib.Omega.{arith}
 use Rattle.ends.proofs.Entries.{found_at}
-use borrow.Author.Rules.{rules}
 use Rattle.ends.proofs.table.find_end.Goals as goal
 
 pub overflow_add-result : goal.overflow_add-result

@@ -1,7 +1,6 @@
 -- `ends::table::keep_end` meets its contract: one entry more that is true. Assumes nothing.
 use native.Mathlib.Omega.{arith}
 use Rattle.ends.proofs.Entries.{kept_at}
-use borrow.Author.Rules.{rules}
 use Rattle.ends.proofs.table.keep_end.Goals as goal
 
 pub returns-then-ends-eq0 : goal.returns-then-ends-eq0

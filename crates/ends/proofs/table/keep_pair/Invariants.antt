@@ -1,11 +1,5 @@
-use lib.ListN.{length, set, length-set}
-use Rattle.ends.specs.code.Ends.{Ends}
-use Prim.Native.Nat.{ℕ, ◌%◌, ◌<◌, ◌≤◌, ◌-◌}
-use mathlib.Core.List.{List}
-use mathlib.Core.Path.{subst, refl, sym, ap, ◌∙◌, ◌≡◌}
-use native.Mathlib.Omega.{arith}
-use Rattle.ends.proofs.Entries.{ends-pair}
-use borrow.Author.Rules.{rules}
+use Prim.Native.Nat.{◌%◌, ◌<◌, ◌≤◌, ◌-◌}
+use mathlib.Core.Path.{◌≡◌}
 use Rattle.ends.proofs.table.keep_pair.Given as goal
 
 abbrev pub invariant-loop-j : goal.invariant-loop-j

@@ -1,6 +1,5 @@
 -- `ends::table::keep_slot` meets its contract: one slot more that is true. Assumes nothing.
 use mathlib.Core.Path.{refl}
-use lib.ListN.{length-set}
 use Rattle.ends.proofs.Entries.{ends-slot}
 use borrow.Author.Rules.{rules}
 use Rattle.ends.proofs.table.keep_slot.Goals as goal

@@ -1,9 +1,6 @@
-use mathlib.Core.Path.{◌∙◌, refl, sym, ◌≡◌}
+use mathlib.Core.Path.{◌≡◌}
 use lib.ListN.{length}
 use Prim.Native.Nat.{◌%◌, ◌<◌, ◌≤◌, ◌+◌, ◌-◌}
-use native.Mathlib.Omega.{arith}
-use Rattle.ends.proofs.Entries.{length_none, found-pair}
-use borrow.Author.Rules.{rules}
 use Rattle.ends.proofs.table.pair_length.Given as goal
 
 abbrev pub invariant-loop-j : goal.invariant-loop-j

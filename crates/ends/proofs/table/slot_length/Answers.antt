@@ -3,7 +3,6 @@ use Prim.Native.Nat.{◌/◌, ◌+◌}
 use mathlib.Core.Path.{refl}
 use native.Mathlib.Omega.{arith}
 use Rattle.ends.proofs.Entries.{length_none, found-slot}
-use borrow.Author.Rules.{rules}
 use Rattle.ends.proofs.table.slot_length.Goals as goal
 
 pub returns-then-ends-j : goal.returns-then-ends-j
@@ -15,10 +14,9 @@ returns-then-e-d c =
     (λ v s T. length_none refl, omega arith)
 
 pub returns : goal.returns
-returns c =
-    (
-      λ v s T. found-slot T c.args.d
-          c.requires.0 c.wide-e.ensures c.if-e-d.false,
-      omega
-          (arith, c.type_inv.ends (c.args.d / 4 + 2)),
-    )
+returns c = (
+  λ v s T. found-slot T c.args.d
+      c.requires.0 c.wide-e.ensures c.if-e-d.false,
+  omega
+      (arith, c.type_inv.ends (c.args.d / 4 + 2)),
+)

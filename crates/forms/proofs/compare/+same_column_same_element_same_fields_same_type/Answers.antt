@@ -1,15 +1,13 @@
 -- The proof of the cycle of calls {same_column, same_element, same_fields, same_type}. The measure is 4 for each level
 -- left of the first type, and 1, 1, 2 and 0 more. `Comparing` holds at the head of the loop. Assumes nothing.
 use mathlib.Core.Path.{refl}
-use Rattle.forms.proofs.Comparing.{counted, Comparing, head_in, heads_differ, leaf-both, struct_both, list-both, array_both, leaves-same, structs_same}
+use Rattle.forms.proofs.Comparing.{counted, head_in, heads_differ, leaf-both, struct_both, list-both, array_both, leaves-same, structs_same}
 use Rattle.forms.proofs.Comparing.{lists_same, arrays_same, behind-label, never_unlabelled, names_differ, names_alike, comparing_none, comparing_all}
 use Rattle.forms.proofs.Comparing.{comparing-no, comparing-more, left_split, right-split}
 use Rattle.forms.proofs.Heads.{head_at}
 use Rattle.layout.proofs.Ways.{label_in}
 use Rattle.layout.proofs.View.{deep, label_got, never_headless}
-use borrow.Author.Rules.{rules}
 use borrow.Author.Tests.{not-true, not-false}
-use Prim.Native.Nat.{ℕ, ◌<◌, ◌+◌, ◌-◌, ◌*◌}
 use native.Mathlib.Omega.{arith}
 use mathlib.Core.Path.{ap}
 use mathlib.Core.Bool.{not}
@@ -25,15 +23,14 @@ same_column-returns-then-not-same_text t c =
     (ap not c.if-not-same_text.true))
 
 pub same_column-same_type-requires : goal.same_column-same_type-requires
-same_column-same_type-requires t c =
-    (
-      omega arith,
-      (
-        behind-label c.requires.column_at (label_got _ c.label.ensures.result_value c.in-Is.is),
-        behind-label c.requires.column_at_2 (label_got _
-            c.label-in-Is.ensures.result_value c.in-Is-label.is),
-      ),
-    )
+same_column-same_type-requires t c = (
+  omega arith,
+  (
+    behind-label c.requires.column_at (label_got _ c.label.ensures.result_value c.in-Is.is),
+    behind-label c.requires.column_at_2 (label_got _
+        c.label-in-Is.ensures.result_value c.in-Is-label.is),
+  ),
+)
 
 pub same_column-returns-else-not-same_text : goal.same_column-returns-else-not-same_text
 same_column-returns-else-not-same_text t c =
@@ -51,15 +48,14 @@ same_column-returns-in-Refused t c =
     λ E F. never_unlabelled E c.label.ensures.result_value c.in-Refused.is
 
 pub same_element-same_type-requires : goal.same_element-same_type-requires
-same_element-same_type-requires t c =
-    (
-      omega arith,
-      (
-        behind-label c.requires.element_at (label_got _ c.element_label.ensures.result_value c.in-Is.is),
-        behind-label c.requires.element_at_2 (label_got _
-            c.element_label-in-Is.ensures.result_value c.in-Is-element_label.is),
-      ),
-    )
+same_element-same_type-requires t c = (
+  omega arith,
+  (
+    behind-label c.requires.element_at (label_got _ c.element_label.ensures.result_value c.in-Is.is),
+    behind-label c.requires.element_at_2 (label_got _
+        c.element_label-in-Is.ensures.result_value c.in-Is-element_label.is),
+  ),
+)
 
 pub same_element-returns-in-Is-element_label : goal.same_element-returns-in-Is-element_label
 same_element-returns-in-Is-element_label t c =
@@ -89,10 +85,10 @@ same_fields-returns-in-No t c =
 pub same_fields-overflow_add-i : goal.same_fields-overflow_add-i
 same_fields-overflow_add-i t c =
     omega (
-  arith,
-  c.well_formed.1.0,
-  c.loop-i-test.true,
-)
+      arith,
+      c.well_formed.1.0,
+      c.loop-i-test.true,
+    )
 
 pub same_fields-loop-i-smaller : goal.same_fields-loop-i-smaller
 same_fields-loop-i-smaller t c =

@@ -1,16 +1,5 @@
-use mathlib.Core.Path.{refl}
-use Rattle.forms.proofs.Comparing.{counted, Comparing, head_in, heads_differ, leaf-both, struct_both, list-both, array_both, leaves-same, structs_same}
-use Rattle.forms.proofs.Comparing.{lists_same, arrays_same, behind-label, never_unlabelled, names_differ, names_alike, comparing_none, comparing_all}
-use Rattle.forms.proofs.Comparing.{comparing-no, comparing-more, left_split, right-split}
-use Rattle.forms.proofs.Heads.{head_at}
-use Rattle.layout.proofs.Ways.{label_in}
-use Rattle.layout.proofs.View.{deep, label_got, never_headless}
-use borrow.Author.Rules.{rules}
-use borrow.Author.Tests.{not-true, not-false}
-use Prim.Native.Nat.{ℕ, ◌<◌, ◌+◌, ◌-◌, ◌*◌}
-use native.Mathlib.Omega.{arith}
-use mathlib.Core.Path.{ap}
-use mathlib.Core.Bool.{not}
+use Rattle.forms.proofs.Comparing.{Comparing}
+use Prim.Native.Nat.{◌+◌, ◌-◌, ◌*◌}
 use Rattle.forms.proofs.compare.+same_column_same_element_same_fields_same_type.Given as goal
 
 abbrev pub decreases-same_column : goal.decreases-same_column

@@ -1,5 +1,4 @@
 -- `forms::compare::same_text` meets its contract. Assumes nothing.
-use borrow.Author.Rules.{rules}
 use Rattle.forms.proofs.Comparing.{same_texts}
 use Rattle.forms.proofs.compare.same_text.Goals as goal
 

@@ -3,12 +3,10 @@
 use Rattle.layout.specs.declared.cursor.Cursor.{Cursor}
 use lib.ListN.{length}
 use mathlib.Core.Path.{refl, sym, ap, ◌∙◌}
-use Rattle.forms.proofs.Writing.{Writing, writing_none, writing_all, writing_more, column, column_name, unlabelled, extent, form-written, rest-leaf}
+use Rattle.forms.proofs.Writing.{writing_none, writing_all, writing_more, column, column_name, unlabelled, extent, form-written, rest-leaf}
 use Rattle.forms.proofs.Writing.{rest-struct, rest-list, rest-array, none-stored, rest-room, element-room, wrote, stored}
 use Rattle.forms.proofs.Heads.{head_at, form-long, end-struct, end_list, end-array}
 use Rattle.layout.proofs.View.{deep, struct_at, list_at, array_at, list-labelled, array-labelled, never_headless}
-use borrow.Author.Rules.{rules}
-use Prim.Native.Nat.{ℕ, ◌<◌, ◌+◌, ◌-◌, ◌*◌}
 use native.Mathlib.Omega.{arith}
 use Rattle.forms.proofs.write.+write_fields_write_form_write_rest.Goals as goal
 
@@ -96,10 +94,13 @@ write_form-overflow_add-result t c =
 
 pub write_form-returns : goal.write_form-returns
 write_form-returns t c =
-    record { len_value = λ P. let H = head_at P refl c.head_end-d.ensures in
+    record {
+      len_value = λ P. let H = head_at P refl c.head_end-d.ensures in
           let E = c.write_rest-rest.ensures.len_value P in
-          (omega (arith, H.from, H.long, E.0, form-long P), E.1); out_after = λ P. let H = head_at P refl c.head_end-d.ensures in
-          form-written P H (λ i. (c.type_inv.s i).fits) _ _ c.copy.ensures (c.write_rest-rest.ensures.out_after P) }
+          (omega (arith, H.from, H.long, E.0, form-long P), E.1);
+      out_after = λ P. let H = head_at P refl c.head_end-d.ensures in
+          form-written P H (λ i. (c.type_inv.s i).fits) _ _ c.copy.ensures (c.write_rest-rest.ensures.out_after P);
+    }
 
 pub write_rest-overflow_sub-depth : goal.write_rest-overflow_sub-depth
 write_rest-overflow_sub-depth t c =
@@ -154,9 +155,12 @@ write_rest-returns-in-Struct t c =
 
 pub write_rest-returns-in-Is : goal.write_rest-returns-in-Is
 write_rest-returns-in-Is t c =
-    record { len_value = λ P. let L = list_at P c.head.ensures.result_value c.element_label.ensures.result_value c.in-List.is c.in-Is.is in wrote (rest-list P L) L.ends
-          (c.write_form.ensures.len_value L.inner); out_after = λ P. let L = list_at P c.head.ensures.result_value c.element_label.ensures.result_value c.in-List.is c.in-Is.is in stored _ _ (rest-list P L)
-          (c.write_form.ensures.out_after L.inner) }
+    record {
+      len_value = λ P. let L = list_at P c.head.ensures.result_value c.element_label.ensures.result_value c.in-List.is c.in-Is.is in wrote (rest-list P L) L.ends
+          (c.write_form.ensures.len_value L.inner);
+      out_after = λ P. let L = list_at P c.head.ensures.result_value c.element_label.ensures.result_value c.in-List.is c.in-Is.is in stored _ _ (rest-list P L)
+          (c.write_form.ensures.out_after L.inner);
+    }
 
 pub write_rest-returns-in-Refused-element_label : goal.write_rest-returns-in-Refused-element_label
 write_rest-returns-in-Refused-element_label t c =
@@ -164,9 +168,12 @@ write_rest-returns-in-Refused-element_label t c =
 
 pub write_rest-returns-in-Is-element_label : goal.write_rest-returns-in-Is-element_label
 write_rest-returns-in-Is-element_label t c =
-    record { len_value = λ P. let L = array_at P c.head.ensures.result_value c.element_label-in-Array.ensures.result_value c.in-Array.is c.in-Is-element_label.is in wrote (rest-array P L)
-          L.ends (c.write_form-in-Is-element_label.ensures.len_value L.inner); out_after = λ P. let L = array_at P c.head.ensures.result_value c.element_label-in-Array.ensures.result_value c.in-Array.is c.in-Is-element_label.is in stored _ _ (rest-array P L)
-          (c.write_form-in-Is-element_label.ensures.out_after L.inner) }
+    record {
+      len_value = λ P. let L = array_at P c.head.ensures.result_value c.element_label-in-Array.ensures.result_value c.in-Array.is c.in-Is-element_label.is in wrote (rest-array P L)
+          L.ends (c.write_form-in-Is-element_label.ensures.len_value L.inner);
+      out_after = λ P. let L = array_at P c.head.ensures.result_value c.element_label-in-Array.ensures.result_value c.in-Array.is c.in-Is-element_label.is in stored _ _ (rest-array P L)
+          (c.write_form-in-Is-element_label.ensures.out_after L.inner);
+    }
 
 pub write_rest-returns-in-Refused-element_label-2 : goal.write_rest-returns-in-Refused-element_label-2
 write_rest-returns-in-Refused-element_label-2 t c =
@@ -174,5 +181,8 @@ write_rest-returns-in-Refused-element_label-2 t c =
 
 pub write_rest-returns-in-Refused : goal.write_rest-returns-in-Refused
 write_rest-returns-in-Refused t c =
-    record { len_value = λ P. never_headless P c.head.ensures.result_value c.in-Refused.is; out_after = λ P. never_headless P c.head.ensures.result_value
-          c.in-Refused.is }
+    record {
+      len_value = λ P. never_headless P c.head.ensures.result_value c.in-Refused.is;
+      out_after = λ P. never_headless P c.head.ensures.result_value
+          c.in-Refused.is;
+    }

@@ -1,13 +1,5 @@
-use Rattle.layout.specs.declared.cursor.Cursor.{Cursor}
-use lib.ListN.{length}
-use mathlib.Core.Path.{refl, sym, ap, ◌∙◌}
-use Rattle.forms.proofs.Writing.{Writing, writing_none, writing_all, writing_more, column, column_name, unlabelled, extent, form-written, rest-leaf}
-use Rattle.forms.proofs.Writing.{rest-struct, rest-list, rest-array, none-stored, rest-room, element-room, wrote, stored}
-use Rattle.forms.proofs.Heads.{head_at, form-long, end-struct, end_list, end-array}
-use Rattle.layout.proofs.View.{deep, struct_at, list_at, array_at, list-labelled, array-labelled, never_headless}
-use borrow.Author.Rules.{rules}
-use Prim.Native.Nat.{ℕ, ◌<◌, ◌+◌, ◌-◌, ◌*◌}
-use native.Mathlib.Omega.{arith}
+use Rattle.forms.proofs.Writing.{Writing}
+use Prim.Native.Nat.{◌+◌, ◌-◌, ◌*◌}
 use Rattle.forms.proofs.write.+write_fields_write_form_write_rest.Given as goal
 
 abbrev pub decreases-write_fields : goal.decreases-write_fields

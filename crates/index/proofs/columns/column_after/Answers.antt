@@ -1,6 +1,5 @@
 -- `index::columns::column_after` meets its contract: where `m` columns end, the next one stands. Assumes nothing.
 use Rattle.index.proofs.Passing.{after-found, after_unlabelled, after_stuck}
-use borrow.Author.Rules.{rules}
 use Rattle.index.proofs.columns.column_after.Goals as goal
 
 pub returns-in-Is : goal.returns-in-Is

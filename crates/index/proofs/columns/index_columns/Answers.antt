@@ -1,9 +1,7 @@
 -- `index::columns::index_columns` meets its contract: the loop keeps `Filling`. Assumes nothing.
-use Prim.Native.Nat.{◌-◌}
-use mathlib.Core.Path.{◌≡◌, refl, ◌∙◌}
-use lib.ListN.{length, length-set}
-use Rattle.index.proofs.Passing.{Filling, filling_start, filling_end, filling-room, filling-last, filling-more}
-use borrow.Author.Rules.{rules}
+use mathlib.Core.Path.{refl, ◌∙◌}
+use lib.ListN.{length-set}
+use Rattle.index.proofs.Passing.{filling_start, filling_end, filling-room, filling-last, filling-more}
 use Rattle.index.proofs.columns.index_columns.Goals as goal
 
 pub loop-j-init : goal.loop-j-init
@@ -23,12 +21,11 @@ returns-in-Refused c =
     record { upper_bound = filling-room c.loop-j.invariant.0 c.loop-j-test.true; indexed = filling-last c.loop-j.invariant.0 c.loop-j-test.true }
 
 pub loop-j-preserved : goal.loop-j-preserved
-loop-j-preserved c =
-    (
-      filling-more c.loop-j.invariant.0 c.loop-j-test.true c.if-n-i.false c.pass_columns.ensures c.in-To.is,
-      length-set c.loop-j.starts
-          c.loop-j.j c.loop-j.c.at ∙ c.loop-j.invariant.1,
-    )
+loop-j-preserved c = (
+  filling-more c.loop-j.invariant.0 c.loop-j-test.true c.if-n-i.false c.pass_columns.ensures c.in-To.is,
+  length-set c.loop-j.starts
+      c.loop-j.j c.loop-j.c.at ∙ c.loop-j.invariant.1,
+)
 
 pub returns : goal.returns
 returns c =

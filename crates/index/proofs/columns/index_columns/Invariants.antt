@@ -1,8 +1,7 @@
 use Prim.Native.Nat.{◌-◌}
-use mathlib.Core.Path.{◌≡◌, refl, ◌∙◌}
-use lib.ListN.{length, length-set}
-use Rattle.index.proofs.Passing.{Filling, filling_start, filling_end, filling-room, filling-last, filling-more}
-use borrow.Author.Rules.{rules}
+use mathlib.Core.Path.{◌≡◌}
+use lib.ListN.{length}
+use Rattle.index.proofs.Passing.{Filling}
 use Rattle.index.proofs.columns.index_columns.Given as goal
 
 abbrev pub invariant-loop-j : goal.invariant-loop-j

@@ -1,6 +1,5 @@
 -- `index::columns::indexed_column` meets its contract: what stands after an entry stands in the row. Assumes nothing.
 use Rattle.index.proofs.Passing.{past-last, from_start}
-use borrow.Author.Rules.{rules}
 use Rattle.index.proofs.columns.indexed_column.Goals as goal
 
 pub returns-then-n-p : goal.returns-then-n-p

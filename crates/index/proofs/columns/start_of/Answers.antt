@@ -1,7 +1,6 @@
 -- `index::columns::start_of` meets its contract. Assumes nothing.
 use mathlib.Core.Path.{refl}
 use Rattle.index.proofs.Passing.{before-first, before-entry}
-use borrow.Author.Rules.{rules}
 use Rattle.index.proofs.columns.start_of.Goals as goal
 
 pub returns-then-j-index : goal.returns-then-j-index

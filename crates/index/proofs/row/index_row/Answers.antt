@@ -1,10 +1,8 @@
 -- `index::row::index_row` meets its contract: the loop keeps `Filling`. Assumes nothing.
-use Prim.Native.Nat.{◌-◌}
-use mathlib.Core.Path.{◌≡◌, refl, ◌∙◌}
+use mathlib.Core.Path.{refl, ◌∙◌}
 use native.Mathlib.Omega.{arith}
-use lib.ListN.{length, length-set}
-use Rattle.index.proofs.Rows.{Filling, filling_start, filling_end, filling-room, filling-same, filling-last, filling-front, filling-more}
-use borrow.Author.Rules.{rules}
+use lib.ListN.{length-set}
+use Rattle.index.proofs.Rows.{filling_start, filling_end, filling-room, filling-same, filling-last, filling-front, filling-more}
 use Rattle.index.proofs.row.index_row.Goals as goal
 
 pub loop-v-init : goal.loop-v-init
@@ -49,8 +47,12 @@ shape_of-values-then-n-i c =
 
 pub returns-then-n-i : goal.returns-then-n-i
 returns-then-n-i c =
-    let h = c.storable.ensures c.loop-v-test.true in record { upper_bound = filling-room c.loop-v.invariant.0 h.0 h.1; upper_bound_2 = filling-same c.loop-v.invariant.0 h.0 h.1; indexed_in = filling-last c.loop-v.invariant.0
-            h.0 h.1 }
+    let h = c.storable.ensures c.loop-v-test.true in record {
+      upper_bound = filling-room c.loop-v.invariant.0 h.0 h.1;
+      upper_bound_2 = filling-same c.loop-v.invariant.0 h.0 h.1;
+      indexed_in = filling-last c.loop-v.invariant.0
+          h.0 h.1;
+    }
 
 pub read_fields-requires : goal.read_fields-requires
 read_fields-requires c =
@@ -66,8 +68,12 @@ shape_of-values-in-Refused c =
 
 pub returns-in-Refused : goal.returns-in-Refused
 returns-in-Refused c =
-    let h = c.storable.ensures c.loop-v-test.true in record { upper_bound = filling-room c.loop-v.invariant.0 h.0 h.1; upper_bound_2 = filling-same c.loop-v.invariant.0 h.0 h.1; indexed_in = filling-last c.loop-v.invariant.0
-            h.0 h.1 }
+    let h = c.storable.ensures c.loop-v-test.true in record {
+      upper_bound = filling-room c.loop-v.invariant.0 h.0 h.1;
+      upper_bound_2 = filling-same c.loop-v.invariant.0 h.0 h.1;
+      indexed_in = filling-last c.loop-v.invariant.0
+          h.0 h.1;
+    }
 
 pub overflow_add-i : goal.overflow_add-i
 overflow_add-i c =

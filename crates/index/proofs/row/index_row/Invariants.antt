@@ -1,9 +1,7 @@
 use Prim.Native.Nat.{◌-◌}
-use mathlib.Core.Path.{◌≡◌, refl, ◌∙◌}
-use native.Mathlib.Omega.{arith}
-use lib.ListN.{length, length-set}
-use Rattle.index.proofs.Rows.{Filling, filling_start, filling_end, filling-room, filling-same, filling-last, filling-front, filling-more}
-use borrow.Author.Rules.{rules}
+use mathlib.Core.Path.{◌≡◌}
+use lib.ListN.{length}
+use Rattle.index.proofs.Rows.{Filling}
 use Rattle.index.proofs.row.index_row.Given as goal
 
 abbrev pub invariant-loop-v : goal.invariant-loop-v

@@ -2,7 +2,6 @@
 use Rattle.index.proofs.Rows.{entry_value, entry-within, entry_row, from-entry}
 use native.Mathlib.Nat.{div-mul-le_self}
 use native.Mathlib.Omega.{arith}
-use borrow.Author.Rules.{rules}
 use Rattle.index.proofs.row.indexed_value.Goals as goal
 
 pub bounds-values-j : goal.bounds-values-j

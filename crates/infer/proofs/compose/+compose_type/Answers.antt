@@ -2,8 +2,6 @@
 use native.Mathlib.Omega.{arith}
 use Rattle.infer.proofs.Composing.{input-at, inferred_to, unsettled, input-typed}
 use Rattle.infer.proofs.FormsAt.{standing}
-use borrow.Author.Rules.{rules}
-use Prim.Native.Nat.{ℕ, ◌<◌}
 use Rattle.infer.proofs.compose.+compose_type.Goals as goal
 
 pub returns-then-levels-eq0 : goal.returns-then-levels-eq0

@@ -1,7 +1,6 @@
 -- `infer::form::behind` meets its contract. Assumes nothing.
 use native.Mathlib.Omega.{arith}
 use Rattle.infer.proofs.Copies.{behind-long, behind-short}
-use borrow.Author.Rules.{rules}
 use Rattle.infer.proofs.form.behind.Goals as goal
 
 pub overflow_add-head : goal.overflow_add-head

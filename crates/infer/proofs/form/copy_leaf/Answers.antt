@@ -1,6 +1,5 @@
 use native.Mathlib.Omega.{arith}
 use Rattle.infer.proofs.Copies.{leaf-filled}
-use borrow.Author.Rules.{rules}
 use Rattle.infer.proofs.form.copy_leaf.Goals as goal
 
 pub returns : goal.returns

@@ -1,7 +1,6 @@
 -- `infer::form::copy_nested` meets its contract. Assumes nothing.
 use native.Mathlib.Omega.{arith}
 use Rattle.infer.proofs.Copies.{copied}
-use borrow.Author.Rules.{rules}
 use Rattle.infer.proofs.form.copy_nested.Goals as goal
 
 pub returns : goal.returns

@@ -1,6 +1,5 @@
 use native.Mathlib.Omega.{arith}
 use Rattle.infer.proofs.Copies.{leaf-span, leaf-copied}
-use borrow.Author.Rules.{rules}
 use Rattle.infer.proofs.form.copy_type.Goals as goal
 
 pub copy_leaf-requires : goal.copy_leaf-requires

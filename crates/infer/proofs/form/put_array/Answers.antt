@@ -1,7 +1,6 @@
 -- `infer::form::put_array` meets its contract. Assumes nothing.
 use native.Mathlib.Omega.{arith}
 use Rattle.infer.proofs.Copies.{untrue, array-put}
-use borrow.Author.Rules.{rules}
 use Rattle.infer.proofs.form.put_array.Goals as goal
 
 pub returns-then-out-k : goal.returns-then-out-k

@@ -1,7 +1,6 @@
 -- `infer::form::put_struct` meets its contract. Assumes nothing.
 use native.Mathlib.Omega.{arith}
 use Rattle.infer.proofs.Copies.{untrue, struct-put}
-use borrow.Author.Rules.{rules}
 use Rattle.infer.proofs.form.put_struct.Goals as goal
 
 pub returns-then-out-k : goal.returns-then-out-k

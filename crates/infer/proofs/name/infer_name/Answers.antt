@@ -1,8 +1,5 @@
 -- `infer::name::infer_name` meets its contract. Assumes nothing.
-use Prim.Native.Nat.{◌-◌}
-use lib.ListN.{length}
-use Rattle.infer.proofs.Names.{Inner, inner_start, inner-named, inner-more, inner-falls}
-use borrow.Author.Rules.{rules}
+use Rattle.infer.proofs.Names.{inner_start, inner-named, inner-more, inner-falls}
 use Rattle.infer.proofs.name.infer_name.Goals as goal
 
 pub loop-name-init : goal.loop-name-init

@@ -1,7 +1,6 @@
 use Prim.Native.Nat.{◌-◌}
 use lib.ListN.{length}
-use Rattle.infer.proofs.Names.{Inner, inner_start, inner-named, inner-more, inner-falls}
-use borrow.Author.Rules.{rules}
+use Rattle.infer.proofs.Names.{Inner}
 use Rattle.infer.proofs.name.infer_name.Given as goal
 
 abbrev pub invariant-loop-name : goal.invariant-loop-name

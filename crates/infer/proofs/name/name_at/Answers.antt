@@ -2,7 +2,6 @@
 use native.Mathlib.Omega.{arith}
 use Rattle.walk.proofs.Heads.{is_position_lem, is-constant, is-rename, is-cast, is_struct_mapping, is_list_mapping, is-array}
 use Rattle.infer.proofs.Names.{scope-readable, position_step, constant_step, rename_step, cast_step, struct_step, list_step, array_step}
-use borrow.Author.Rules.{rules}
 use Rattle.infer.proofs.name.name_at.Goals as goal
 
 pub returns-in-At : goal.returns-in-At

@@ -2,7 +2,6 @@
 use native.Mathlib.Omega.{arith}
 use Rattle.direct.proofs.Naming.{name_incoming, name-plan}
 use Rattle.infer.proofs.Names.{name-short, name-written}
-use borrow.Author.Rules.{rules}
 use Rattle.infer.proofs.name.write_name.Goals as goal
 
 pub overflow_add-end-2 : goal.overflow_add-end-2
@@ -15,13 +14,19 @@ returns-then-out-end c =
 
 pub write_text-requires : goal.write_text-requires
 write_text-requires c =
-    let (b, N, S) = c.requires.name_at in record { span_in = ((name_incoming N c.in-Incoming.is).0, name-short N S); s_bound = omega
-          (arith, c.requires.s_len_bound) }
+    let (b, N, S) = c.requires.name_at in record {
+      span_in = ((name_incoming N c.in-Incoming.is).0, name-short N S);
+      s_bound = omega
+          (arith, c.requires.s_len_bound);
+    }
 
 pub write_text-requires-in-Plan : goal.write_text-requires-in-Plan
 write_text-requires-in-Plan c =
-    let (b, N, S) = c.requires.name_at in record { span_in = ((name-plan N c.in-Plan.is).0, name-short N S); s_bound = omega
-          (arith, c.requires.s_len_bound) }
+    let (b, N, S) = c.requires.name_at in record {
+      span_in = ((name-plan N c.in-Plan.is).0, name-short N S);
+      s_bound = omega
+          (arith, c.requires.s_len_bound);
+    }
 
 pub returns-in-Incoming : goal.returns-in-Incoming
 returns-in-Incoming c =

@@ -1,19 +1,5 @@
-use mathlib.Core.Path.{sym}
-use lib.Seq.{length-take-le}
-use borrow.Author.Tests.{not-false}
-use Rattle.walk.proofs.View.{selector_moved}
-use Rattle.walk.proofs.Heads.{is-cast, is-rename, is_struct_mapping, is_list_mapping, is-array}
-use Rattle.direct.proofs.Scoping.{taken_at}
-use Rattle.infer.proofs.Transforms.{inferred_short, fields-short, depth_as, input-at, named-to, in_struct, in_list, in_array, array-width, cast-from}
-use Rattle.infer.proofs.Transforms.{rename-from, struct_from, list-from, array-from, rename_infers, list_infers, array_infers, struct_infers, list-scope}
-use Rattle.infer.proofs.Transforms.{array-scope, struct-scope, struct-selectors, unrenamed_infers, input-takes, column_infers}
-use Rattle.infer.proofs.Behind.{same_size, list_left, array-left, struct_left, name-left}
-use borrow.Author.Rules.{rules}
-use native.Mathlib.Omega.{arith}
-use Rattle.infer.proofs.Gathering.{Gathering, gathering_none, gathering_all, gathering-head, gathering-inside, gathering-more}
-use Prim.Native.Nat.{ℕ, ◌<◌, ◌+◌, ◌-◌, ◌*◌}
-use mathlib.Core.Path.{ap}
-use mathlib.Core.Bool.{not}
+use Rattle.infer.proofs.Gathering.{Gathering}
+use Prim.Native.Nat.{◌+◌, ◌-◌, ◌*◌}
 use Rattle.infer.proofs.over.+array_over_infer_column_infer_fields_infer_over_infer_selector_list_over_struct_over.Given as goal
 
 abbrev pub decreases-array_over : goal.decreases-array_over

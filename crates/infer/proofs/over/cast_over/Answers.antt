@@ -1,7 +1,6 @@
 -- `infer::over::cast_over` meets its contract. Assumes nothing.
 use borrow.Author.Tests.{not-false}
 use Rattle.infer.proofs.Transforms.{cast-type, cast_infers}
-use borrow.Author.Rules.{rules}
 use mathlib.Core.Path.{ap}
 use mathlib.Core.Bool.{not}
 use Rattle.infer.proofs.over.cast_over.Goals as goal

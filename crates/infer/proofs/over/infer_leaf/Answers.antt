@@ -2,7 +2,6 @@
 use Rattle.walk.proofs.Heads.{is-constant}
 use Rattle.direct.proofs.Scoping.{taken_at}
 use Rattle.infer.proofs.Transforms.{position_infers, constant_infers}
-use borrow.Author.Rules.{rules}
 use Rattle.infer.proofs.over.infer_leaf.Goals as goal
 
 pub copy_type-requires : goal.copy_type-requires

@@ -2,7 +2,6 @@
 use Rattle.infer.proofs.Targets.{not-typed, inferred_fits}
 use Rattle.infer.proofs.Composing.{inferred_to}
 use Rattle.infer.proofs.FormsAt.{standing}
-use borrow.Author.Rules.{rules}
 use Rattle.infer.proofs.target.fit_inferred.Goals as goal
 
 pub same_type-requires : goal.same_type-requires

@@ -3,7 +3,6 @@ use borrow.Author.Tests.{not-false}
 use Rattle.infer.proofs.Targets.{column-typed, given_as}
 use Rattle.layout.proofs.Ways.{label_in}
 use Rattle.direct.proofs.Rows.{column_asks}
-use borrow.Author.Rules.{rules}
 use mathlib.Core.Path.{ap}
 use mathlib.Core.Bool.{not}
 use Rattle.infer.proofs.target.fit_inputs.Goals as goal

@@ -1,6 +1,5 @@
 -- `infer::target::fit_large` meets its contract. Assumes nothing.
 use native.Mathlib.Omega.{arith}
-use borrow.Author.Rules.{rules}
 use Rattle.infer.proofs.target.fit_large.Goals as goal
 
 pub compose_type-r-requires : goal.compose_type-r-requires

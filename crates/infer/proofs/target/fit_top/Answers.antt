@@ -1,6 +1,5 @@
 -- `infer::target::fit_top` meets its contract. Assumes nothing.
 use Rattle.infer.proofs.Targets.{given_as}
-use borrow.Author.Rules.{rules}
 use Rattle.infer.proofs.target.fit_top.Goals as goal
 
 pub returns-in-At : goal.returns-in-At

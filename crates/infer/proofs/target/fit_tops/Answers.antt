@@ -1,10 +1,8 @@
 -- `infer::target::fit_tops` meets its contract. Assumes nothing.
-use Prim.Native.Nat.{◌-◌}
 use mathlib.Core.Path.{refl}
 use native.Mathlib.Omega.{arith}
 use Rattle.direct.proofs.Fitting.{none-given}
-use Rattle.direct.proofs.Rows.{Fitting, fitting-none, fitting-all, fitting-asks, fitting-more}
-use borrow.Author.Rules.{rules}
+use Rattle.direct.proofs.Rows.{fitting-none, fitting-all, fitting-asks, fitting-more}
 use Rattle.infer.proofs.target.fit_tops.Goals as goal
 
 pub loop-i-init : goal.loop-i-init

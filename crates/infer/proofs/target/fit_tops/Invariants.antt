@@ -1,9 +1,5 @@
 use Prim.Native.Nat.{◌-◌}
-use mathlib.Core.Path.{refl}
-use native.Mathlib.Omega.{arith}
-use Rattle.direct.proofs.Fitting.{none-given}
-use Rattle.direct.proofs.Rows.{Fitting, fitting-none, fitting-all, fitting-asks, fitting-more}
-use borrow.Author.Rules.{rules}
+use Rattle.direct.proofs.Rows.{Fitting}
 use Rattle.infer.proofs.target.fit_tops.Given as goal
 
 abbrev pub invariant-loop-i : goal.invariant-loop-i

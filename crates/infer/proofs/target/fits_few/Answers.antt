@@ -4,15 +4,17 @@ use Rattle.index.proofs.Empty.{indexed-none}
 use Rattle.direct.proofs.Rows.{plan_asks}
 use Rattle.direct.proofs.Fitting.{gives_to}
 use Rattle.plan.proofs.Results.{true≠false}
-use borrow.Author.Rules.{rules}
 use Rattle.infer.proofs.target.fits_few.Goals as goal
 
 pub fit_tops-requires : goal.fit_tops-requires
 fit_tops-requires c =
-    record { fields_fit_from = plan_asks c.requires.columns_at c.requires.selectors_at c.requires.columns_at_2 (indexed-none refl) (omega arith) refl c.requires.incoming_len_bound.2; s_len_bound = (
+    record {
+      fields_fit_from = plan_asks c.requires.columns_at c.requires.selectors_at c.requires.columns_at_2 (indexed-none refl) (omega arith) refl c.requires.incoming_len_bound.2;
+      s_len_bound = (
         c.requires.incoming_len_bound.0,
         c.requires.incoming_len_bound.1,
-      ) }
+      );
+    }
 
 pub returns-in-At : goal.returns-in-At
 returns-in-At c =

@@ -3,7 +3,6 @@ use mathlib.Core.Path.{refl, sym}
 use Rattle.direct.proofs.Rows.{plan_asks}
 use Rattle.direct.proofs.Fitting.{gives_to}
 use Rattle.plan.proofs.Results.{true≠false}
-use borrow.Author.Rules.{rules}
 use Rattle.infer.proofs.target.fits_many.Goals as goal
 
 pub slice_bounds-index-end : goal.slice_bounds-index-end

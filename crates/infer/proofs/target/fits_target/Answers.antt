@@ -1,5 +1,4 @@
 use mathlib.Core.Path.{refl}
-use borrow.Author.Rules.{rules}
 use Rattle.walk.proofs.View.{selectors_moved}
 use Rattle.direct.proofs.Trees.{plan-passes}
 use Rattle.plan.proofs.Results.{true≠false}

@@ -2,7 +2,6 @@
 use mathlib.Core.Path.{refl}
 use Rattle.plan.proofs.Results.{true≠false}
 use Rattle.infer.proofs.Labels.{named-to, label_is}
-use borrow.Author.Rules.{rules}
 use Rattle.infer.proofs.target.same_label.Goals as goal
 
 pub same_name-requires : goal.same_name-requires

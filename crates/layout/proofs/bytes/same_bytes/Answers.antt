@@ -1,8 +1,6 @@
 -- `layout::bytes::same_bytes` meets its contract: the loop keeps `Matched`. Assumes nothing.
-use Prim.Native.Nat.{◌-◌}
-use lib.ListN.{length}
 use native.Mathlib.Omega.{arith}
-use Rattle.layout.proofs.Same.{Matched, matched-none, matched-more, matched-differs, matched-short, matched-all}
+use Rattle.layout.proofs.Same.{matched-none, matched-more, matched-differs, matched-short, matched-all}
 use Rattle.layout.proofs.bytes.same_bytes.Goals as goal
 
 pub loop-i-init : goal.loop-i-init

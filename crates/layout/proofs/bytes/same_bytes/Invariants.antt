@@ -1,7 +1,6 @@
 use Prim.Native.Nat.{◌-◌}
 use lib.ListN.{length}
-use native.Mathlib.Omega.{arith}
-use Rattle.layout.proofs.Same.{Matched, matched-none, matched-more, matched-differs, matched-short, matched-all}
+use Rattle.layout.proofs.Same.{Matched}
 use Rattle.layout.proofs.bytes.same_bytes.Given as goal
 
 abbrev pub invariant-loop-i : goal.invariant-loop-i

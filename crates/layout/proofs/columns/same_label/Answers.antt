@@ -1,5 +1,4 @@
 -- `layout::columns::same_label` meets its contract: a case for each rule. Assumes nothing.
-use borrow.Author.Rules.{rules}
 use Rattle.layout.proofs.Same.{same_names, same_ids}
 use Rattle.layout.proofs.columns.same_label.Goals as goal
 

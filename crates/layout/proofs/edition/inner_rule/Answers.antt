@@ -1,5 +1,4 @@
 -- `layout::edition::inner_rule` meets its contract: a case for each edition. Assumes nothing.
-use borrow.Author.Rules.{rules}
 use Rattle.layout.proofs.edition.inner_rule.Goals as goal
 
 pub returns-in-One : goal.returns-in-One

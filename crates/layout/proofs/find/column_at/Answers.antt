@@ -1,6 +1,5 @@
 -- `layout::find::column_at` meets its contract: after `k` columns the next one is the one. Assumes nothing.
 use Rattle.layout.proofs.Finding.{position_past, position_stuck, position-unlabelled, position-found}
-use borrow.Author.Rules.{rules}
 use Rattle.layout.proofs.find.column_at.Goals as goal
 
 pub returns-then-n-k : goal.returns-then-n-k

@@ -1,9 +1,7 @@
 -- `layout::find::find_column` meets its contract: the loop keeps `Seeking`. Assumes nothing.
 use borrow.Author.Rules.{rules}
-use Prim.Native.Nat.{◌-◌}
-use Rattle.layout.specs.code.Finding.{wanted_by}
 use Rattle.layout.proofs.Ways.{label_in}
-use Rattle.layout.proofs.Finding.{Seeking, seeking_start, seeking_none, seeking_unlabelled, seeking-found, seeking-stuck, seeking-more}
+use Rattle.layout.proofs.Finding.{seeking_start, seeking_none, seeking_unlabelled, seeking-found, seeking-stuck, seeking-more}
 use Rattle.layout.proofs.find.find_column.Goals as goal
 
 pub loop-i-init : goal.loop-i-init

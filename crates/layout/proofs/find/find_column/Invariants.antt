@@ -1,8 +1,6 @@
-use borrow.Author.Rules.{rules}
 use Prim.Native.Nat.{◌-◌}
 use Rattle.layout.specs.code.Finding.{wanted_by}
-use Rattle.layout.proofs.Ways.{label_in}
-use Rattle.layout.proofs.Finding.{Seeking, seeking_start, seeking_none, seeking_unlabelled, seeking-found, seeking-stuck, seeking-more}
+use Rattle.layout.proofs.Finding.{Seeking}
 use Rattle.layout.proofs.find.find_column.Given as goal
 
 abbrev pub invariant-loop-i : goal.invariant-loop-i

@@ -1,6 +1,5 @@
 -- `layout::find::find_counterpart` meets its contract: a case for each way of matching. Assumes nothing.
 use Rattle.layout.proofs.Finding.{counterpart-name, counterpart-id}
-use borrow.Author.Rules.{rules}
 use Rattle.layout.proofs.find.find_counterpart.Goals as goal
 
 pub returns-in-ByName : goal.returns-in-ByName

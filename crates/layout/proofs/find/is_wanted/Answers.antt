@@ -1,5 +1,4 @@
 -- `layout::find::is_wanted` meets its contract: a case for each thing that is looked for. Assumes nothing.
-use borrow.Author.Rules.{rules}
 use Rattle.layout.proofs.Finding.{wanted_name}
 use Rattle.layout.proofs.find.is_wanted.Goals as goal
 

@@ -1,9 +1,8 @@
 -- The proof of the cycle of calls {pass_columns, pass_element, pass_rest, pass_type}. The measure is 3 for each level
 -- left, and 1, 1, 2 and 0 more. `Passing` holds at the head of the loop. Assumes nothing.
 use borrow.Author.Rules.{rules}
-use Prim.Native.Nat.{ℕ, ◌<◌, ◌+◌, ◌-◌, ◌*◌}
 use native.Mathlib.Omega.{arith}
-use Rattle.layout.proofs.Passing.{Passing, passing_none, passing_all, passing-no-label, passing-no-type, passing-more, not_plain, type-passed}
+use Rattle.layout.proofs.Passing.{passing_none, passing_all, passing-no-label, passing-no-type, passing-more, not_plain, type-passed}
 use Rattle.layout.proofs.Passing.{rest-passed, element-passed}
 use Rattle.layout.proofs.pass.+pass_columns_pass_element_pass_rest_pass_type.Goals as goal
 

@@ -1,8 +1,5 @@
-use borrow.Author.Rules.{rules}
-use Prim.Native.Nat.{ℕ, ◌<◌, ◌+◌, ◌-◌, ◌*◌}
-use native.Mathlib.Omega.{arith}
-use Rattle.layout.proofs.Passing.{Passing, passing_none, passing_all, passing-no-label, passing-no-type, passing-more, not_plain, type-passed}
-use Rattle.layout.proofs.Passing.{rest-passed, element-passed}
+use Prim.Native.Nat.{◌+◌, ◌-◌, ◌*◌}
+use Rattle.layout.proofs.Passing.{Passing}
 use Rattle.layout.proofs.pass.+pass_columns_pass_element_pass_rest_pass_type.Given as goal
 
 abbrev pub decreases-pass_columns : goal.decreases-pass_columns

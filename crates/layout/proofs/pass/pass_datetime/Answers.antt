@@ -1,5 +1,4 @@
 -- `layout::pass::pass_datetime` meets its contract: each way has its rule in `Passing`. Assumes nothing.
-use borrow.Author.Rules.{rules}
 use Rattle.layout.proofs.Passing.{datetime_whole, datetime_zoneless, datetime_unitless}
 use Rattle.layout.proofs.pass.pass_datetime.Goals as goal
 

@@ -1,5 +1,4 @@
 -- `layout::pass::pass_decimal` meets its contract: each way has its rule in `Passing`. Assumes nothing.
-use borrow.Author.Rules.{rules}
 use Rattle.layout.proofs.Passing.{decimal_whole, decimal-refused}
 use Rattle.layout.proofs.pass.pass_decimal.Goals as goal
 

@@ -1,5 +1,4 @@
 -- `layout::pass::pass_element_label` meets its contract: each edition has its rule in `Passing`. Assumes nothing.
-use borrow.Author.Rules.{rules}
 use Rattle.layout.proofs.Passing.{element-labelled}
 use Rattle.layout.proofs.pass.pass_element_label.Goals as goal
 

@@ -1,5 +1,4 @@
 -- `layout::pass::pass_label` meets its contract: each way has its rule in `Passing`. Assumes nothing.
-use borrow.Author.Rules.{rules}
 use Rattle.layout.proofs.Passing.{label-passed}
 use Rattle.layout.proofs.pass.pass_label.Goals as goal
 

@@ -1,5 +1,4 @@
 -- `layout::pass::pass_long` meets its contract: each way has its rule in `Passing`. Assumes nothing.
-use borrow.Author.Rules.{rules}
 use Rattle.layout.proofs.Passing.{long_in, long-past, long-short}
 use Rattle.layout.proofs.pass.pass_long.Goals as goal
 

@@ -1,13 +1,12 @@
 -- The proof of the cycle of calls {read_columns, read_element, read_rest, read_type}. The measure is 3 for each level
 -- left, and 1, 1, 2 and 0 more. `Reading` holds at the head of the loop. Assumes nothing.
 use borrow.Author.Rules.{rules}
-use Prim.Native.Nat.{ℕ, ◌<◌, ◌+◌, ◌-◌, ◌*◌}
 use mathlib.Core.Path.{sym, ◌∙◌}
 use native.Mathlib.Omega.{arith}
 use Rattle.layout.proofs.Ways.{label_in}
 use Rattle.layout.proofs.Passing.{not_plain, type_unruled, type-passed, rest-passed, element-passed}
 use Rattle.layout.proofs.Noting.{keeps_same}
-use Rattle.layout.proofs.Reading.{Reading, reading_none, reading_all, reading-no-label, reading-no-type, reading-repeated, reading-more}
+use Rattle.layout.proofs.Reading.{reading_none, reading_all, reading-no-label, reading-no-type, reading-repeated, reading-more}
 use Rattle.layout.proofs.Reading.{reading_begins, reading-noted}
 use Rattle.layout.proofs.read.+read_columns_read_element_read_rest_read_type.Goals as goal
 

@@ -1,12 +1,5 @@
-use borrow.Author.Rules.{rules}
-use Prim.Native.Nat.{ℕ, ◌<◌, ◌+◌, ◌-◌, ◌*◌}
-use mathlib.Core.Path.{sym, ◌∙◌}
-use native.Mathlib.Omega.{arith}
-use Rattle.layout.proofs.Ways.{label_in}
-use Rattle.layout.proofs.Passing.{not_plain, type_unruled, type-passed, rest-passed, element-passed}
-use Rattle.layout.proofs.Noting.{keeps_same}
-use Rattle.layout.proofs.Reading.{Reading, reading_none, reading_all, reading-no-label, reading-no-type, reading-repeated, reading-more}
-use Rattle.layout.proofs.Reading.{reading_begins, reading-noted}
+use Prim.Native.Nat.{◌+◌, ◌-◌, ◌*◌}
+use Rattle.layout.proofs.Reading.{Reading}
 use Rattle.layout.proofs.read.+read_columns_read_element_read_rest_read_type.Given as goal
 
 abbrev pub decreases-read_columns : goal.decreases-read_columns

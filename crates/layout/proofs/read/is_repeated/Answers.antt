@@ -1,7 +1,6 @@
 -- `layout::read::is_repeated` meets its contract: a label is new where a search for it ends at an empty slot. Assumes
 -- nothing.
 use Rattle.layout.proofs.Noting.{keeps_same, notes-met, not_noted, place-keeps, place-notes}
-use borrow.Author.Rules.{rules}
 use Rattle.layout.proofs.read.is_repeated.Goals as goal
 
 pub returns-then-k-seen : goal.returns-then-k-seen

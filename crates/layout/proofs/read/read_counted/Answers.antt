@@ -1,5 +1,4 @@
 -- `layout::read::read_counted` meets its contract: each way has its rule in `Top`. Assumes nothing.
-use borrow.Author.Rules.{rules}
 use mathlib.Core.Path.{sym}
 use Rattle.layout.proofs.Top.{layout-read, layout-longer, layout-broken, layout_uncounted}
 use Rattle.layout.proofs.read.read_counted.Goals as goal

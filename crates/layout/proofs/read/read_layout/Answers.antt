@@ -1,5 +1,4 @@
 -- `layout::read::read_layout` meets its contract: each way has its rule in `Top`. Assumes nothing.
-use borrow.Author.Rules.{rules}
 use Rattle.layout.proofs.Top.{layout_big, layout_marked, layout_unmarked}
 use Rattle.layout.proofs.read.read_layout.Goals as goal
 

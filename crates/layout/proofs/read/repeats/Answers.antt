@@ -1,9 +1,7 @@
 -- `layout::read::repeats` meets its contract: the loop keeps `Scanning`. Assumes nothing.
-use Prim.Native.Nat.{◌-◌}
 use native.Mathlib.Omega.{arith}
-use Rattle.layout.specs.code.Answers.{label_at}
 use Rattle.layout.proofs.Ways.{label_in}
-use Rattle.layout.proofs.Reading.{Scanning, scanning_none, scanning_all, scanning-no-label, scanning-found, scanning-no-type, scanning-more}
+use Rattle.layout.proofs.Reading.{scanning_none, scanning_all, scanning-no-label, scanning-found, scanning-no-type, scanning-more}
 use Rattle.layout.proofs.Reading.{scanning_free}
 use borrow.Author.Rules.{rules}
 use Rattle.layout.proofs.read.repeats.Goals as goal

@@ -1,11 +1,8 @@
 -- `layout::seen::find_slot` meets its contract: the loop keeps `Searching`. Assumes nothing.
 use mathlib.Core.Path.{refl}
 use native.Mathlib.Omega.{arith}
-use Prim.Native.Nat.{◌-◌}
-use Rattle.layout.specs.code.Answers.{label_at}
-use Rattle.layout.proofs.Noting.{Searching, searching_none, searched_none, searching_full, searching-empty, searching-met, searching-more}
+use Rattle.layout.proofs.Noting.{searching_none, searched_none, searching_full, searching-empty, searching-met, searching-more}
 use Rattle.layout.proofs.Noting.{searched_first}
-use borrow.Author.Rules.{rules}
 use Rattle.layout.proofs.seen.find_slot.Goals as goal
 
 pub returns-then-n-eq0 : goal.returns-then-n-eq0

@@ -1,10 +1,6 @@
-use mathlib.Core.Path.{refl}
-use native.Mathlib.Omega.{arith}
 use Prim.Native.Nat.{◌-◌}
 use Rattle.layout.specs.code.Answers.{label_at}
-use Rattle.layout.proofs.Noting.{Searching, searching_none, searched_none, searching_full, searching-empty, searching-met, searching-more}
-use Rattle.layout.proofs.Noting.{searched_first}
-use borrow.Author.Rules.{rules}
+use Rattle.layout.proofs.Noting.{Searching}
 use Rattle.layout.proofs.seen.find_slot.Given as goal
 
 abbrev pub invariant-loop-i : goal.invariant-loop-i

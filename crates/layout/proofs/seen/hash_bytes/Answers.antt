@@ -1,9 +1,6 @@
 -- `layout::seen::hash_bytes` meets its contract. Assumes nothing.
-use borrow.Author.Rules.{rules}
-use Prim.Native.Nat.{◌-◌}
-use lib.ListN.{length}
 use native.Mathlib.Omega.{arith}
-use Rattle.layout.proofs.Noting.{Hashing, hashing_none, hashing_more, hashing_last, hashing_all}
+use Rattle.layout.proofs.Noting.{hashing_none, hashing_more, hashing_last, hashing_all}
 use Rattle.layout.proofs.seen.hash_bytes.Goals as goal
 
 pub loop-i-init : goal.loop-i-init

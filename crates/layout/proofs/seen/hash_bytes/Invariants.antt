@@ -1,8 +1,6 @@
-use borrow.Author.Rules.{rules}
 use Prim.Native.Nat.{◌-◌}
 use lib.ListN.{length}
-use native.Mathlib.Omega.{arith}
-use Rattle.layout.proofs.Noting.{Hashing, hashing_none, hashing_more, hashing_last, hashing_all}
+use Rattle.layout.proofs.Noting.{Hashing}
 use Rattle.layout.proofs.seen.hash_bytes.Given as goal
 
 abbrev pub invariant-loop-i : goal.invariant-loop-i

@@ -1,5 +1,4 @@
 -- `layout::seen::label_hash` meets its contract: a case for each rule. Assumes nothing.
-use borrow.Author.Rules.{rules}
 use Rattle.layout.proofs.Noting.{hash_name, hash_id, hash_none}
 use Rattle.layout.proofs.seen.label_hash.Goals as goal
 

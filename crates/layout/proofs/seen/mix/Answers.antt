@@ -1,5 +1,4 @@
 -- `layout::seen::mix` meets its contract. Assumes nothing.
-use borrow.Author.Rules.{rules}
 use mathlib.Core.Path.{refl}
 use Rattle.layout.specs.code.Seen.{mixed}
 use Rattle.layout.proofs.seen.mix.Goals as goal

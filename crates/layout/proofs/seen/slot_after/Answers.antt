@@ -1,7 +1,6 @@
 -- `layout::seen::slot_after` meets its contract. Assumes nothing.
 use native.Mathlib.Omega.{arith}
 use Rattle.layout.proofs.Noting.{slot_on, slot-round}
-use borrow.Author.Rules.{rules}
 use Rattle.layout.proofs.seen.slot_after.Goals as goal
 
 pub returns-then-i-behind : goal.returns-then-i-behind

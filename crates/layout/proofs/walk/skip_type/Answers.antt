@@ -1,5 +1,4 @@
 use Rattle.layout.proofs.View.{type-ends, never_stuck}
-use borrow.Author.Rules.{rules}
 use Rattle.layout.proofs.walk.skip_type.Goals as goal
 
 pub returns-in-To : goal.returns-in-To

@@ -4,14 +4,13 @@
 use Rattle.labels.proofs.Arena.{table_kept}
 use borrow.Rule.Slice.PartMut.{take_put, same_len_mid}
 use lib.Seq.{length-take-le}
-use lib.ListN.{length, take}
+use lib.ListN.{length}
 use native.Mathlib.Omega.{arith}
-use Rattle.matcher.proofs.Remaining.{Remaining, remaining_all, remaining_none, remaining_unlabelled, field, field-name, field-after, remaining-stop}
+use Rattle.matcher.proofs.Remaining.{remaining_all, remaining_none, remaining_unlabelled, field, field-name, field-after, remaining-stop}
 use Rattle.matcher.proofs.Remaining.{remaining-room, remaining-more, table_still}
-use mathlib.Core.Path.{◌≡◌, refl, sym, ap, ◌∙◌}
-use Rattle.builder.proofs.Names.{not-false}
+use mathlib.Core.Path.{refl, sym, ap, ◌∙◌}
 use Rattle.layout.specs.code.Answers.{head_res, label_at}
-use Rattle.layout.proofs.Ways.{clash, head_in}
+use Rattle.layout.proofs.Ways.{head_in}
 use Rattle.layout.proofs.View.{deep, leaf_at_lem, never_headless}
 use Rattle.forms.proofs.Writing.{extent, text-long}
 use Rattle.plan.specs.Selector.{position, list_mapping, array_mapping}
@@ -27,8 +26,7 @@ use Rattle.matcher.proofs.Cycle.{renamed-plain, renamed-stopped, renamed-made, n
 use Rattle.matcher.proofs.Cycle.{element-kept, element_names, inner-list, inner-list-other, inner-array, inner-array-other, inner-none, sought-at}
 use Rattle.matcher.proofs.Cycle.{sought-absent}
 use mathlib.Core.Bool.{Bool, ◌&&◌}
-use borrow.Author.Rules.{rules}
-use Prim.Native.Nat.{ℕ, ◌<◌, ◌+◌, ◌-◌, ◌*◌}
+use Prim.Native.Nat.{◌+◌, ◌-◌}
 use mathlib.Core.Bool.{not}
 use Rattle.matcher.proofs.attach.+attach_element_attach_field_attach_fields_attach_inner_attach_nested_attach_renamed_attach_struct_attach_transforms.Goals as goal
 
@@ -133,50 +131,55 @@ attach_field-shape_of-arena-in-At t c =
 
 pub attach_field-returns-in-At : goal.attach_field-returns-in-At
 attach_field-returns-in-At t c =
-    record { attached_field = λ from T P Q lt.
+    record {
+      attached_field = λ from T P Q lt.
           let H = found_here c.args.build.incoming c.args.sought.depth c.args.incoming.now (counterpart c.args.build.matching (label_at c.args.target.now c.args.sought.column.label) P.columns) (c.find_in.ensures P) c.in-At.is in
-          makes_as _ _ _ _ _ _ (sought-at c.args.build.matching c.args.build.policy (defaults_at c.args.build.defaults T) c.args.sought.missing.insert c.args.sought.missing.number (label_at c.args.target.now c.args.sought.column.label) Q.tree (counterpart c.args.build.matching (label_at c.args.target.now c.args.sought.column.label) P.columns) H.is) (c.attach_renamed.ensures from T H.inner Q (omega (arith, lt)) (λ n. lt)); arena_unchanged = take_put c.args.sought.used (length c.args.arena.now - c.args.sought.used) c.args.arena.now c.attach_renamed.new.arena c.requires.sought_in.0 }
+          makes_as _ _ _ _ _ _ (sought-at c.args.build.matching c.args.build.policy (defaults_at c.args.build.defaults T) c.args.sought.missing.insert c.args.sought.missing.number (label_at c.args.target.now c.args.sought.column.label) Q.tree (counterpart c.args.build.matching (label_at c.args.target.now c.args.sought.column.label) P.columns) H.is) (c.attach_renamed.ensures from T H.inner Q (omega (arith, lt)) (λ n. lt));
+      arena_unchanged = take_put c.args.sought.used (length c.args.arena.now - c.args.sought.used) c.args.arena.now c.attach_renamed.new.arena c.requires.sought_in.0;
+    }
 
 pub attach_field-returns-in-Absent : goal.attach_field-returns-in-Absent
 attach_field-returns-in-Absent t c =
-    record { attached_field = λ from T P Q lt.
+    record {
+      attached_field = λ from T P Q lt.
           let X = counterpart c.args.build.matching (label_at c.args.target.now c.args.sought.column.label) P.columns in
           makes_as _ _ _ _ _ _ (sought-absent c.args.build.matching c.args.build.policy (defaults_at c.args.build.defaults T) c.args.sought.missing.insert c.args.sought.missing.number (label_at c.args.target.now c.args.sought.column.label) Q.tree X (found-absent c.args.build.incoming c.args.sought.depth
-          c.args.incoming.now X (c.find_in.ensures P) c.in-Absent.is)) (c.put_missing.ensures from T Q lt); arena_unchanged = refl }
+          c.args.incoming.now X (c.find_in.ensures P) c.in-Absent.is)) (c.put_missing.ensures from T Q lt);
+      arena_unchanged = refl;
+    }
 
 pub attach_fields-loop-i-init : goal.attach_fields-loop-i-init
 attach_fields-loop-i-init t c =
     (remaining_all c.requires.rows_at.1.0 c.requires.target_len_bound.2, refl, refl)
 
 pub attach_fields-attach_field-made-requires : goal.attach_fields-attach_field-made-requires
-attach_fields-attach_field-made-requires t c =
+attach_fields-attach_field-made-requires t c = (
+  omega (arith, c.decreases),
+  (
+    (c.requires.rows_at.0, ((field c.loop-i.invariant.0 c.loop-i-test.true c.label.ensures.result_value c.in-Is.is).head, c.requires.rows_at.1.1)),
     (
-      omega (arith, c.decreases),
+      c.requires.indexed_table_at,
       (
-        (c.requires.rows_at.0, ((field c.loop-i.invariant.0 c.loop-i-test.true c.label.ensures.result_value c.in-Is.is).head, c.requires.rows_at.1.1)),
+        field-name c.loop-i.invariant.0 c.loop-i-test.true c.label.ensures.result_value c.in-Is.is c.label.ensures.label_in,
         (
-          c.requires.indexed_table_at,
           (
-            field-name c.loop-i.invariant.0 c.loop-i-test.true c.label.ensures.result_value c.in-Is.is c.label.ensures.label_in,
-            (
-              (
-                c.requires.target_len_bound.0,
-                c.requires.target_len_bound.1,
-                omega (
-                  arith,
-                  c.loop-i.invariant.0.room,
-                  field-after c.loop-i.invariant.0 c.loop-i-test.true c.label.ensures.result_value c.in-Is.is,
-                ),
-              ),
-              (
-                (omega arith),
-                table_still c.fill_fields-used.new.arena c.loop-i.arena c.loop-i.invariant.1 c.fill_fields-used.ensures.table,
-              ),
+            c.requires.target_len_bound.0,
+            c.requires.target_len_bound.1,
+            omega (
+              arith,
+              c.loop-i.invariant.0.room,
+              field-after c.loop-i.invariant.0 c.loop-i-test.true c.label.ensures.result_value c.in-Is.is,
             ),
+          ),
+          (
+            (omega arith),
+            table_still c.fill_fields-used.new.arena c.loop-i.arena c.loop-i.invariant.1 c.fill_fields-used.ensures.table,
           ),
         ),
       ),
-    )
+    ),
+  ),
+)
 
 pub attach_fields-shape_of-out-then-is_refused : goal.attach_fields-shape_of-out-then-is_refused
 attach_fields-shape_of-out-then-is_refused t c =
@@ -219,13 +222,12 @@ attach_fields-overflow_add-i t c =
     omega (arith, c.well_formed.1.1.1.1.1.0, c.loop-i-test.true)
 
 pub attach_fields-loop-i-preserved : goal.attach_fields-loop-i-preserved
-attach_fields-loop-i-preserved t c =
-    (
-      remaining-more c.loop-i.invariant.0 c.loop-i-test.true c.label.ensures.result_value c.in-Is.is c.inserts-insert.ensures _ (λ T P. c.attach_field-made.ensures.attached_field c.loop-i.c.at T P (field c.loop-i.invariant.0 c.loop-i-test.true c.label.ensures.result_value c.in-Is.is
-          ).head (field-after c.loop-i.invariant.0 c.loop-i-test.true c.label.ensures.result_value c.in-Is.is)) (sym c.is_refused.ensures ∙ c.if-is_refused.false) c.requires.indexed_table_at.0 c.requires.rows_at.0 c.attach_field-made.auto.out (c.skip_type-c.ensures (field c.loop-i.invariant.0 c.loop-i-test.true c.label.ensures.result_value c.in-Is.is).head) c.len_of-to.ensures (c.both-same.ensures ∙ ap (λ (b : Bool). c.loop-i.same && b) c.is_bare.ensures),
-      c.attach_field-made.ensures.arena_unchanged ∙ c.loop-i.invariant.1,
-      c.attach_field-made.auto.arena ∙ c.loop-i.invariant.2,
-    )
+attach_fields-loop-i-preserved t c = (
+  remaining-more c.loop-i.invariant.0 c.loop-i-test.true c.label.ensures.result_value c.in-Is.is c.inserts-insert.ensures _ (λ T P. c.attach_field-made.ensures.attached_field c.loop-i.c.at T P (field c.loop-i.invariant.0 c.loop-i-test.true c.label.ensures.result_value c.in-Is.is
+      ).head (field-after c.loop-i.invariant.0 c.loop-i-test.true c.label.ensures.result_value c.in-Is.is)) (sym c.is_refused.ensures ∙ c.if-is_refused.false) c.requires.indexed_table_at.0 c.requires.rows_at.0 c.attach_field-made.auto.out (c.skip_type-c.ensures (field c.loop-i.invariant.0 c.loop-i-test.true c.label.ensures.result_value c.in-Is.is).head) c.len_of-to.ensures (c.both-same.ensures ∙ ap (λ (b : Bool). c.loop-i.same && b) c.is_bare.ensures),
+  c.attach_field-made.ensures.arena_unchanged ∙ c.loop-i.invariant.1,
+  c.attach_field-made.auto.arena ∙ c.loop-i.invariant.2,
+)
 
 pub attach_fields-shape_of-arena : goal.attach_fields-shape_of-arena
 attach_fields-shape_of-arena t c =
@@ -414,14 +416,17 @@ attach_renamed-overflow_add-place-2 t c =
 
 pub attach_renamed-write_text-n-requires : goal.attach_renamed-write_text-n-requires
 attach_renamed-write_text-n-requires t c =
-    record { span_in = (c.requires.pair_named.1, c.requires.pair_named.2); s_bound = omega (
+    record {
+      span_in = (c.requires.pair_named.1, c.requires.pair_named.2);
+      s_bound = omega (
         arith,
         makes-room _ (c.attach_transforms-made.ensures c.requires.indexed_table_at.0 c.requires.pair_at.0 c.requires.pair_at.1.0) (sym
             c.is_refused.ensures ∙ c.if-is_refused.false),
         c.len_of-len.ensures,
         extent c.requires.pair_at.1.0,
         c.requires.target_len_bound,
-      ) }
+      );
+    }
 
 pub attach_renamed-overflow_add-result : goal.attach_renamed-overflow_add-result
 attach_renamed-overflow_add-result t c =

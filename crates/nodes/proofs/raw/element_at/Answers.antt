@@ -1,7 +1,6 @@
 -- `nodes::raw::element_at` meets its contract: the element stands after those before it. Assumes nothing.
 use mathlib.Core.Path.{refl}
 use Rattle.nodes.proofs.Node.{element-past, element-found, element_unread}
-use borrow.Author.Rules.{rules}
 use Rattle.nodes.proofs.raw.element_at.Goals as goal
 
 pub returns-then-n-i : goal.returns-then-n-i

@@ -1,7 +1,6 @@
 -- `nodes::raw::field_at` meets its contract: the column stands after those before it, and its value after theirs.
 -- Assumes nothing.
 use Rattle.nodes.proofs.Node.{field_past, field_front, field_found, field-unlabelled, field_unread}
-use borrow.Author.Rules.{rules}
 use Rattle.nodes.proofs.raw.field_at.Goals as goal
 
 pub returns-then-n-k : goal.returns-then-n-k

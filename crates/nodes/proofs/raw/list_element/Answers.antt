@@ -1,7 +1,6 @@
 -- `nodes::raw::list_element` meets its contract: the elements stand after the count. Assumes nothing.
 use mathlib.Core.Path.{sym}
 use Rattle.nodes.proofs.Node.{node_as, list_counted, list_uncounted}
-use borrow.Author.Rules.{rules}
 use Rattle.nodes.proofs.raw.list_element.Goals as goal
 
 pub element_at-requires : goal.element_at-requires

@@ -1,6 +1,5 @@
 -- `nodes::raw::part_at` meets its contract: a null has no parts. Assumes nothing.
 use Rattle.nodes.proofs.Node.{nowhere, part_as, raw-null, raw-present, raw_unread}
-use borrow.Author.Rules.{rules}
 use Rattle.nodes.proofs.raw.part_at.Goals as goal
 
 pub present_part-requires : goal.present_part-requires

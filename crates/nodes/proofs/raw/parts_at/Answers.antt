@@ -2,7 +2,6 @@
 use mathlib.Core.Path.{sym, ap, ◌∙◌}
 use Rattle.nodes.specs.code.Raw.{parts_of}
 use Rattle.nodes.proofs.Node.{raw-null, raw-present, raw_unread}
-use borrow.Author.Rules.{rules}
 use Rattle.nodes.proofs.raw.parts_at.Goals as goal
 
 pub present_parts-requires : goal.present_parts-requires

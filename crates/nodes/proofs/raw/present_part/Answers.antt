@@ -2,7 +2,6 @@
 use Rattle.nodes.proofs.Node.{nowhere, node_as, part_as, leaf-none, struct_row, list-within, array-elements}
 use mathlib.Core.Path.{sym}
 use Rattle.layout.proofs.View.{leaf-opened, struct-opened, list-opened, array-opened, never_opened}
-use borrow.Author.Rules.{rules}
 use Rattle.nodes.proofs.raw.present_part.Goals as goal
 
 pub field_at-requires : goal.field_at-requires

@@ -2,7 +2,6 @@
 use mathlib.Core.Path.{sym}
 use Rattle.layout.proofs.View.{leaf_at_lem, struct_at, never_headless}
 use Rattle.nodes.proofs.Node.{leaf-none, struct_row, list-parts, list_unparted, array_parts}
-use borrow.Author.Rules.{rules}
 use Rattle.nodes.proofs.raw.present_parts.Goals as goal
 
 pub returns-in-Leaf : goal.returns-in-Leaf

@@ -1,7 +1,5 @@
 -- `nodes::raw::value_at` meets its contract: the loop keeps `Going`. Assumes nothing.
-use Rattle.nodes.proofs.Path.{Going, going_start, going_end, going_nowhere, going_more}
-use Prim.Native.Nat.{◌-◌}
-use borrow.Author.Rules.{rules}
+use Rattle.nodes.proofs.Path.{going_start, going_end, going_nowhere, going_more}
 use Rattle.nodes.proofs.raw.value_at.Goals as goal
 
 pub loop-i-init : goal.loop-i-init

@@ -1,6 +1,5 @@
-use Rattle.nodes.proofs.Path.{Going, going_start, going_end, going_nowhere, going_more}
+use Rattle.nodes.proofs.Path.{Going}
 use Prim.Native.Nat.{◌-◌}
-use borrow.Author.Rules.{rules}
 use Rattle.nodes.proofs.raw.value_at.Given as goal
 
 abbrev pub invariant-loop-i : goal.invariant-loop-i

@@ -1,11 +1,9 @@
 -- The proof of the cycle of calls {fields_size, type_size}. The measure is 2 for each level left, and 1 more for
 -- columns. `Sizing` holds at the head of the loop. Assumes nothing.
-use Rattle.nodes.proofs.Sizes.{Sizing, sizing_none, sizing_all, sizing-unlabelled, sizing-first, sizing-fits, sizing-more, size-leaf, in_struct, in_list}
+use Rattle.nodes.proofs.Sizes.{sizing_none, sizing_all, sizing-unlabelled, sizing-first, sizing-fits, sizing-more, size-leaf, in_struct, in_list}
 use Rattle.nodes.proofs.Sizes.{in_array, inside-fits, inside-size}
 use Rattle.layout.proofs.View.{deep, struct_at, list_at, array_at, list-labelled, array-labelled, never_headless}
-use Prim.Native.Nat.{◌+◌, ◌-◌, ◌*◌, ℕ, ◌<◌}
 use native.Mathlib.Omega.{arith}
-use borrow.Author.Rules.{rules}
 use Rattle.nodes.proofs.types.+fields_size_type_size.Goals as goal
 
 pub fields_size-loop-i-init : goal.fields_size-loop-i-init
@@ -13,13 +11,12 @@ fields_size-loop-i-init t c =
     sizing_none c.requires
 
 pub fields_size-type_size-t-requires : goal.fields_size-type_size-t-requires
-fields_size-type_size-t-requires t c =
-    (
-      omega (arith, c.decreases),
-      (sizing-first
-          c.loop-i.invariant c.loop-i-test.true
-          c.label.ensures.result_value c.in-Is.is c.label.ensures.label_in).head,
-    )
+fields_size-type_size-t-requires t c = (
+  omega (arith, c.decreases),
+  (sizing-first
+      c.loop-i.invariant c.loop-i-test.true
+      c.label.ensures.result_value c.in-Is.is c.label.ensures.label_in).head,
+)
 
 pub fields_size-overflow_add-size : goal.fields_size-overflow_add-size
 fields_size-overflow_add-size t c =

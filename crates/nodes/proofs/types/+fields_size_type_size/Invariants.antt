@@ -1,9 +1,5 @@
-use Rattle.nodes.proofs.Sizes.{Sizing, sizing_none, sizing_all, sizing-unlabelled, sizing-first, sizing-fits, sizing-more, size-leaf, in_struct, in_list}
-use Rattle.nodes.proofs.Sizes.{in_array, inside-fits, inside-size}
-use Rattle.layout.proofs.View.{deep, struct_at, list_at, array_at, list-labelled, array-labelled, never_headless}
-use Prim.Native.Nat.{◌+◌, ◌-◌, ◌*◌, ℕ, ◌<◌}
-use native.Mathlib.Omega.{arith}
-use borrow.Author.Rules.{rules}
+use Rattle.nodes.proofs.Sizes.{Sizing}
+use Prim.Native.Nat.{◌+◌, ◌-◌, ◌*◌}
 use Rattle.nodes.proofs.types.+fields_size_type_size.Given as goal
 
 abbrev pub decreases-fields_size : goal.decreases-fields_size

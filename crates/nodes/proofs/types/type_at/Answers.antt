@@ -1,7 +1,5 @@
 -- `nodes::types::type_at` meets its contract: the loop keeps `Leading`. Assumes nothing.
-use Rattle.nodes.proofs.Leading.{Leading, leading_start, leading_end, leading_more}
-use Prim.Native.Nat.{◌-◌}
-use borrow.Author.Rules.{rules}
+use Rattle.nodes.proofs.Leading.{leading_start, leading_end, leading_more}
 use Rattle.nodes.proofs.types.type_at.Goals as goal
 
 pub loop-i-init : goal.loop-i-init

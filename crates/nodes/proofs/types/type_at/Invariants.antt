@@ -1,6 +1,5 @@
-use Rattle.nodes.proofs.Leading.{Leading, leading_start, leading_end, leading_more}
+use Rattle.nodes.proofs.Leading.{Leading}
 use Prim.Native.Nat.{◌-◌}
-use borrow.Author.Rules.{rules}
 use Rattle.nodes.proofs.types.type_at.Given as goal
 
 abbrev pub invariant-loop-i : goal.invariant-loop-i

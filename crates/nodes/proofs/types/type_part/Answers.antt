@@ -1,7 +1,6 @@
 -- `nodes::types::type_part` meets its contract: a law for each head. Assumes nothing.
 use Rattle.nodes.proofs.Leading.{leads-leaf, leads-field, leads-absent, leads-list, leads-array}
 use Rattle.layout.proofs.View.{struct-opened, never_opened}
-use borrow.Author.Rules.{rules}
 use Rattle.nodes.proofs.types.type_part.Goals as goal
 
 pub column_at-requires : goal.column_at-requires

@@ -3,7 +3,6 @@ use Rattle.nullness.proofs.Marking.{optional-top, leaf-top, struct-top, list-top
 use Rattle.nullness.proofs.Placing.{untold}
 use Rattle.plan.proofs.Skipping.{told}
 use Rattle.layout.proofs.View.{never_headless}
-use borrow.Author.Rules.{rules}
 use mathlib.Core.Path.{ap}
 use mathlib.Core.Bool.{not}
 use Rattle.nullness.proofs.column.column_filled.Goals as goal

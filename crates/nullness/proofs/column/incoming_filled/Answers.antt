@@ -1,8 +1,5 @@
 -- `nullness::column::incoming_filled` meets its contract: the column where it stands, or none. Assumes nothing.
 use Rattle.nullness.proofs.Marking.{column-mark, column-none, marked_fills}
-use native.Mathlib.Omega.{arith}
-use mathlib.Core.Path.{subst, sym}
-use borrow.Author.Rules.{rules}
 use Rattle.nullness.proofs.column.incoming_filled.Goals as goal
 
 pub indexed_column-requires : goal.indexed_column-requires

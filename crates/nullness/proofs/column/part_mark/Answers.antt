@@ -1,7 +1,6 @@
 -- `nullness::column::part_mark` meets its contract: a law for each head. Assumes nothing.
 use Rattle.nullness.proofs.Marking.{leaf_part_lem, field-part, absent-part, list_part_lem, array_part_lem}
 use Rattle.layout.proofs.View.{struct_at, list-labelled, array-labelled, never_headless}
-use borrow.Author.Rules.{rules}
 use Rattle.nullness.proofs.column.part_mark.Goals as goal
 
 pub column_at-requires : goal.column_at-requires

@@ -1,9 +1,5 @@
 -- `nullness::column::place_filled` meets its contract: the loop keeps `Marking`. Assumes nothing.
-use Rattle.nullness.proofs.Marking.{Marking, marking_start, marking_none, marking_refused, marking_more, marking_end}
-use Prim.Native.Nat.{◌-◌}
-use Rattle.layout.specs.code.Stands.{TypeAt}
-use Rattle.plan.specs.Marks.{given}
-use borrow.Author.Rules.{rules}
+use Rattle.nullness.proofs.Marking.{marking_start, marking_none, marking_refused, marking_more, marking_end}
 use Rattle.nullness.proofs.column.place_filled.Goals as goal
 
 pub loop-i-init : goal.loop-i-init

@@ -1,8 +1,7 @@
-use Rattle.nullness.proofs.Marking.{Marking, marking_start, marking_none, marking_refused, marking_more, marking_end}
+use Rattle.nullness.proofs.Marking.{Marking}
 use Prim.Native.Nat.{◌-◌}
 use Rattle.layout.specs.code.Stands.{TypeAt}
 use Rattle.plan.specs.Marks.{given}
-use borrow.Author.Rules.{rules}
 use Rattle.nullness.proofs.column.place_filled.Given as goal
 
 abbrev pub invariant-loop-i : goal.invariant-loop-i

@@ -6,15 +6,11 @@ use Rattle.nodes.proofs.Node.{raw-present, list-is}
 use Rattle.values.proofs.Inside.{null-at}
 use Rattle.plan.proofs.Skipping.{told}
 use Rattle.layout.proofs.Ways.{clash}
-use borrow.Author.Rules.{rules}
-use Prim.Native.Nat.{ℕ, ◌<◌, ◌+◌, ◌-◌, ◌*◌}
 use native.Mathlib.Omega.{arith}
-use lib.ListN.{length}
-use mathlib.Core.Path.{◌≡◌, refl, ◌∙◌}
-use Rattle.nullness.specs.code.Nulls.{Grown}
+use mathlib.Core.Path.{refl, ◌∙◌}
 use Rattle.nullness.proofs.NullsTable.{grown-same, grown_then}
-use Rattle.nullness.proofs.Filling.{nulls_as, each_as, null_nulls, leaf_nulls, struct_nulls, list-nulls, array-nulls, Elements, elements-none}
-use Rattle.nullness.proofs.Filling.{elements-all, elements-raw, elements-more, Row, row-none, row-all, row-raw, row_more}
+use Rattle.nullness.proofs.Filling.{nulls_as, each_as, null_nulls, leaf_nulls, struct_nulls, list-nulls, array-nulls, elements-none}
+use Rattle.nullness.proofs.Filling.{elements-all, elements-raw, elements-more, row-none, row-all, row-raw, row_more}
 use mathlib.Core.Path.{ap}
 use mathlib.Core.Bool.{not}
 use Rattle.nullness.proofs.fill.+fill_content_fill_elements_fill_fields_fill_list_fill_value.Goals as goal
@@ -24,26 +20,24 @@ fill_content-fill_fields-requires t c =
     (omega (arith, c.decreases), (c.requires.ends, (struct-value c.requires.present_at c.head.ensures.result_value c.in-Struct.is).row))
 
 pub fill_content-fill_list-requires : goal.fill_content-fill_list-requires
-fill_content-fill_list-requires t c =
-    (
-      omega (arith, c.decreases),
-      (
-        c.requires.ends,
-        (list-is c.requires.present_at c.head.ensures.result_value c.element_label.ensures.result_value c.in-Is.is
-            c.in-List.is).inner,
-      ),
-    )
+fill_content-fill_list-requires t c = (
+  omega (arith, c.decreases),
+  (
+    c.requires.ends,
+    (list-is c.requires.present_at c.head.ensures.result_value c.element_label.ensures.result_value c.in-Is.is
+        c.in-List.is).inner,
+  ),
+)
 
 pub fill_content-fill_elements-requires : goal.fill_content-fill_elements-requires
-fill_content-fill_elements-requires t c =
-    (
-      omega (arith, c.decreases),
-      (
-        c.requires.ends,
-        (array-value c.requires.present_at c.head.ensures.result_value c.element_label-in-Array.ensures.result_value
-            c.in-Is-element_label.is c.in-Array.is).elements,
-      ),
-    )
+fill_content-fill_elements-requires t c = (
+  omega (arith, c.decreases),
+  (
+    c.requires.ends,
+    (array-value c.requires.present_at c.head.ensures.result_value c.element_label-in-Array.ensures.result_value
+        c.in-Is-element_label.is c.in-Array.is).elements,
+  ),
+)
 
 pub fill_content-returns-in-Leaf : goal.fill_content-returns-in-Leaf
 fill_content-returns-in-Leaf t c =
@@ -51,16 +45,22 @@ fill_content-returns-in-Leaf t c =
 
 pub fill_content-returns-in-Struct : goal.fill_content-returns-in-Struct
 fill_content-returns-in-Struct t c =
-    record { grown = c.fill_fields.ensures.grown; nulls_of = λ e X. let S = struct-value X c.head.ensures.result_value c.in-Struct.is in struct_nulls c.head.ensures.result_value
-          c.in-Struct.is S.is (c.fill_fields.ensures.row_of e S.row) }
+    record {
+      grown = c.fill_fields.ensures.grown;
+      nulls_of = λ e X. let S = struct-value X c.head.ensures.result_value c.in-Struct.is in struct_nulls c.head.ensures.result_value
+          c.in-Struct.is S.is (c.fill_fields.ensures.row_of e S.row);
+    }
 
 pub fill_content-returns-in-Is : goal.fill_content-returns-in-Is
 fill_content-returns-in-Is t c =
-    record { grown = c.fill_list.ensures.grown; nulls_of = λ e X.
+    record {
+      grown = c.fill_list.ensures.grown;
+      nulls_of = λ e X.
           let L = list-is X c.head.ensures.result_value c.element_label.ensures.result_value c.in-Is.is c.in-List.is in
           let A = a_list_lem X c.head.ensures.result_value c.in-List.is in
           list-nulls c.head.ensures.result_value c.element_label.ensures.result_value c.in-Is.is
-          (c.fill_list.ensures.each_of e L.inner A.values (L.is ∙ A.is)) c.in-List.is A.is }
+          (c.fill_list.ensures.each_of e L.inner A.values (L.is ∙ A.is)) c.in-List.is A.is;
+    }
 
 pub fill_content-returns-in-Refused-element_label : goal.fill_content-returns-in-Refused-element_label
 fill_content-returns-in-Refused-element_label t c =
@@ -68,10 +68,13 @@ fill_content-returns-in-Refused-element_label t c =
 
 pub fill_content-returns-in-Is-element_label : goal.fill_content-returns-in-Is-element_label
 fill_content-returns-in-Is-element_label t c =
-    record { grown = c.fill_elements.ensures.grown; nulls_of = λ e X.
+    record {
+      grown = c.fill_elements.ensures.grown;
+      nulls_of = λ e X.
           let A = array-value X c.head.ensures.result_value c.element_label-in-Array.ensures.result_value c.in-Is-element_label.is c.in-Array.is in
           array-nulls c.head.ensures.result_value c.element_label-in-Array.ensures.result_value c.in-Is-element_label.is (c.fill_elements.ensures.each_of e A.elements)
-          c.in-Array.is A.is }
+          c.in-Array.is A.is;
+    }
 
 pub fill_content-returns-in-Refused-element_label-2 : goal.fill_content-returns-in-Refused-element_label-2
 fill_content-returns-in-Refused-element_label-2 t c =
@@ -102,13 +105,12 @@ fill_elements-returns-in-Refused t c =
     record { grown = grown_then c.loop-i.invariant.1 c.fill_value.ensures.grown; each_of = λ e. clash (cc) }
 
 pub fill_elements-loop-i-preserved : goal.fill_elements-loop-i-preserved
-fill_elements-loop-i-preserved t c =
-    (
-      elements-more c.loop-i.invariant.0 c.loop-i-test.true c.fill_value.ensures.grown (c.fill_value.ensures.nulls_of (told _ (ap not c.if-not-fill_value.false)))
-          c.read_element.ensures c.in-To.is,
-      grown_then c.loop-i.invariant.1 c.fill_value.ensures.grown,
-      c.fill_value.auto.nulls ∙ c.loop-i.invariant.2,
-    )
+fill_elements-loop-i-preserved t c = (
+  elements-more c.loop-i.invariant.0 c.loop-i-test.true c.fill_value.ensures.grown (c.fill_value.ensures.nulls_of (told _ (ap not c.if-not-fill_value.false)))
+      c.read_element.ensures c.in-To.is,
+  grown_then c.loop-i.invariant.1 c.fill_value.ensures.grown,
+  c.fill_value.auto.nulls ∙ c.loop-i.invariant.2,
+)
 
 pub fill_elements-returns : goal.fill_elements-returns
 fill_elements-returns t c =
@@ -143,14 +145,13 @@ fill_fields-overflow_add-i t c =
     omega (arith, c.loop-i-test.true, c.ranges)
 
 pub fill_fields-loop-i-preserved : goal.fill_fields-loop-i-preserved
-fill_fields-loop-i-preserved t c =
-    (
-      row_more c.loop-i.invariant.0 c.loop-i-test.true c.label.ensures.result_value c.in-Is.is c.fill_value.ensures.grown
-          (c.fill_value.ensures.nulls_of (told _ (ap not c.if-not-fill_value.false))) c.read_value.ensures c.in-To.is,
-      grown_then c.loop-i.invariant.1
-          c.fill_value.ensures.grown,
-      c.fill_value.auto.nulls ∙ c.loop-i.invariant.2,
-    )
+fill_fields-loop-i-preserved t c = (
+  row_more c.loop-i.invariant.0 c.loop-i-test.true c.label.ensures.result_value c.in-Is.is c.fill_value.ensures.grown
+      (c.fill_value.ensures.nulls_of (told _ (ap not c.if-not-fill_value.false))) c.read_value.ensures c.in-To.is,
+  grown_then c.loop-i.invariant.1
+      c.fill_value.ensures.grown,
+  c.fill_value.auto.nulls ∙ c.loop-i.invariant.2,
+)
 
 pub fill_fields-returns : goal.fill_fields-returns
 fill_fields-returns t c =
@@ -162,8 +163,11 @@ fill_list-fill_elements-requires t c =
 
 pub fill_list-returns-in-Is : goal.fill_list-returns-in-Is
 fill_list-returns-in-Is t c =
-    record { grown = c.fill_elements.ensures.grown; each_of = λ e X vs q. let L = list-elements X c.short.ensures c.in-Is.is in each_as L.is q
-          (c.fill_elements.ensures.each_of e L.elements) }
+    record {
+      grown = c.fill_elements.ensures.grown;
+      each_of = λ e X vs q. let L = list-elements X c.short.ensures c.in-Is.is in each_as L.is q
+          (c.fill_elements.ensures.each_of e L.elements);
+    }
 
 pub fill_list-returns-in-Refused : goal.fill_list-returns-in-Refused
 fill_list-returns-in-Refused t c =
@@ -183,13 +187,19 @@ fill_value-fill_content-requires t c =
 
 pub fill_value-returns-in-Null : goal.fill_value-returns-in-Null
 fill_value-returns-in-Null t c =
-    record { grown = c.keep_null.ensures.grown; nulls_of = λ e X. null_nulls (null-at X.value c.read_presence.ensures c.in-Null.is).0
-          (c.keep_null.ensures.kept e) }
+    record {
+      grown = c.keep_null.ensures.grown;
+      nulls_of = λ e X. null_nulls (null-at X.value c.read_presence.ensures c.in-Null.is).0
+          (c.keep_null.ensures.kept e);
+    }
 
 pub fill_value-returns-in-Present : goal.fill_value-returns-in-Present
 fill_value-returns-in-Present t c =
-    record { grown = c.fill_content.ensures.grown; nulls_of = λ e X. let I = raw-present X c.read_presence.ensures c.in-Present.is in nulls_as I.is
-          (c.fill_content.ensures.nulls_of e I.inner) }
+    record {
+      grown = c.fill_content.ensures.grown;
+      nulls_of = λ e X. let I = raw-present X c.read_presence.ensures c.in-Present.is in nulls_as I.is
+          (c.fill_content.ensures.nulls_of e I.inner);
+    }
 
 pub fill_value-returns-in-Refused : goal.fill_value-returns-in-Refused
 fill_value-returns-in-Refused t c =

@@ -1,20 +1,9 @@
-use Rattle.overflow.proofs.Scanning.{list-elements}
-use Rattle.overflow.proofs.Raw.{leaf-value, struct-value, a_list_lem, array-value}
-use Rattle.nodes.proofs.Node.{raw-present, list-is}
-use Rattle.values.proofs.Inside.{null-at}
-use Rattle.plan.proofs.Skipping.{told}
-use Rattle.layout.proofs.Ways.{clash}
-use borrow.Author.Rules.{rules}
-use Prim.Native.Nat.{ℕ, ◌<◌, ◌+◌, ◌-◌, ◌*◌}
-use native.Mathlib.Omega.{arith}
+use Prim.Native.Nat.{◌+◌, ◌-◌, ◌*◌}
 use lib.ListN.{length}
-use mathlib.Core.Path.{◌≡◌, refl, ◌∙◌}
+use mathlib.Core.Path.{◌≡◌}
 use Rattle.nullness.specs.code.Nulls.{Grown}
-use Rattle.nullness.proofs.NullsTable.{grown-same, grown_then}
-use Rattle.nullness.proofs.Filling.{nulls_as, each_as, null_nulls, leaf_nulls, struct_nulls, list-nulls, array-nulls, Elements, elements-none}
-use Rattle.nullness.proofs.Filling.{elements-all, elements-raw, elements-more, Row, row-none, row-all, row-raw, row_more}
-use mathlib.Core.Path.{ap}
-use mathlib.Core.Bool.{not}
+use Rattle.nullness.proofs.Filling.{Elements}
+use Rattle.nullness.proofs.Filling.{Row}
 use Rattle.nullness.proofs.fill.+fill_content_fill_elements_fill_fields_fill_list_fill_value.Given as goal
 
 abbrev pub decreases-fill_content : goal.decreases-fill_content

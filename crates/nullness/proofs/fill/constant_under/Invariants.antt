@@ -1,4 +1,3 @@
-use borrow.Author.Rules.{rules}
 use Rattle.nullness.proofs.fill.constant_under.Given as goal
 
 abbrev pub invariant-loop-left : goal.invariant-loop-left

@@ -1,6 +1,5 @@
 -- `nullness::fill::fill_constant` meets its contract: the type is read first. Assumes nothing.
 use Rattle.nullness.proofs.Filling.{type-read}
-use borrow.Author.Rules.{rules}
 use Rattle.nullness.proofs.fill.fill_constant.Goals as goal
 
 pub fill_known-requires : goal.fill_known-requires

@@ -2,7 +2,6 @@ use Prim.Native.Nat.{◌-◌}
 use mathlib.Core.Path.{◌≡◌}
 use lib.ListN.{length}
 use Rattle.nullness.specs.code.Nulls.{Nulls}
-use borrow.Author.Rules.{rules}
 use Rattle.nullness.proofs.fill.fill_constants.Given as goal
 
 abbrev pub invariant-loop-i : goal.invariant-loop-i

@@ -2,7 +2,6 @@
 use mathlib.Core.Path.{refl}
 use Rattle.nullness.proofs.Filling.{value_read}
 use Rattle.ends.proofs.Entries.{ends-none}
-use borrow.Author.Rules.{rules}
 use Rattle.nullness.proofs.fill.fill_known.Goals as goal
 
 pub read_element-requires : goal.read_element-requires

@@ -3,7 +3,6 @@ use mathlib.Core.Path.{refl}
 use Rattle.nullness.proofs.Filling.{constant_nulls}
 use Rattle.nullness.proofs.NullsTable.{nulls_grown}
 use Rattle.ends.proofs.Entries.{ends-none}
-use borrow.Author.Rules.{rules}
 use Rattle.nullness.proofs.fill.fill_large.Goals as goal
 
 pub fill_value-requires : goal.fill_value-requires

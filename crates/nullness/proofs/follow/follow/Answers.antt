@@ -1,8 +1,6 @@
 -- `nullness::follow::follow` meets its contract: the loop keeps `Followings`. Assumes nothing.
-use Rattle.nullness.proofs.Following.{Followings, following_start, following_located, input-starts, following_passes, following_fails, following_input}
+use Rattle.nullness.proofs.Following.{following_start, following_located, input-starts, following_passes, following_fails, following_input}
 use native.Mathlib.Omega.{arith}
-use borrow.Author.Rules.{rules}
-use Rattle.walk.specs.code.Walks.{rank}
 use Rattle.nullness.proofs.follow.follow.Goals as goal
 
 pub loop-x-init : goal.loop-x-init

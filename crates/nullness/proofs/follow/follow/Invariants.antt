@@ -1,6 +1,4 @@
-use Rattle.nullness.proofs.Following.{Followings, following_start, following_located, input-starts, following_passes, following_fails, following_input}
-use native.Mathlib.Omega.{arith}
-use borrow.Author.Rules.{rules}
+use Rattle.nullness.proofs.Following.{Followings}
 use Rattle.walk.specs.code.Walks.{rank}
 use Rattle.nullness.proofs.follow.follow.Given as goal
 

@@ -2,15 +2,13 @@
 -- depth of the type falling; the loop keeps `Fieldings`. Assumes nothing.
 use Rattle.nullness.proofs.Meeting.{element_place, element-met, top_fails, struct-place, list-place, array-place, leaf-meets, struct-meets, list-meets}
 use Rattle.nullness.proofs.Meeting.{array-meets}
-use Rattle.nullness.proofs.Meeting.{Fieldings, fielding_start, fielding_all, fielding_labelled, field, field-place, fielding-fails, fielding-more}
+use Rattle.nullness.proofs.Meeting.{fielding_start, fielding_all, fielding_labelled, field, field-place, fielding-fails, fielding-more}
 use Rattle.overflow.proofs.Paths.{step_room, step_deep}
 use Rattle.nullness.proofs.Placing.{untold}
 use Rattle.plan.proofs.Skipping.{told}
 use Rattle.overflow.proofs.Elements.{list_element_lem, array_element_lem, element-type, element-labelled}
 use Rattle.layout.proofs.View.{deep, struct_at, never_headless}
 use mathlib.Core.Path.{refl}
-use borrow.Author.Rules.{rules}
-use Prim.Native.Nat.{ℕ, ◌<◌, ◌+◌, ◌-◌, ◌*◌}
 use native.Mathlib.Omega.{arith}
 use mathlib.Core.Path.{ap}
 use mathlib.Core.Bool.{not}

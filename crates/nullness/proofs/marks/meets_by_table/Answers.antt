@@ -1,7 +1,6 @@
 -- `nullness::marks::meets_by_table` meets its contract: the tables are those of the plan's constants. Assumes nothing.
 use Rattle.plan.proofs.Skipping.{skips-none}
 use Rattle.nullness.proofs.NullsTable.{nulls_zeros}
-use borrow.Author.Rules.{rules}
 use Rattle.nullness.proofs.marks.meets_by_table.Goals as goal
 
 pub read_selectors-requires : goal.read_selectors-requires

@@ -1,12 +1,11 @@
 -- `nullness::marks::meets_columns` meets its contract: the loop keeps `Columnings`. Assumes nothing.
-use Rattle.nullness.proofs.Meeting.{Columnings, columning_start, columning_all, column-place, columning-fails, columning-more}
+use Rattle.nullness.proofs.Meeting.{columning_start, columning_all, column-place, columning-fails, columning-more}
 use Rattle.nullness.proofs.Placing.{untold}
 use Rattle.overflow.proofs.Columns.{pair-labelled, next, column_type}
 use Rattle.plan.proofs.Skipping.{told}
 use lib.ListN.{length-replicate}
 use native.Mathlib.Omega.{arith}
-use Prim.Native.Nat.{ℕ, ◌-◌}
-use borrow.Author.Rules.{rules}
+use Prim.Native.Nat.{ℕ}
 use mathlib.Core.Path.{ap}
 use mathlib.Core.Bool.{not}
 use Rattle.nullness.proofs.marks.meets_columns.Goals as goal
@@ -18,11 +17,16 @@ loop-i-init c =
 pub meets_type-requires : goal.meets_type-requires
 meets_type-requires c =
     let C = c.loop-i.invariant c.requires.plan_at.0 c.requires.plan_at.1 c.requires.plan_at.2 in let T = (next C.pairing c.loop-i-test.true c.label.ensures.result_value
-    c.in-Is.is).field.head in let S = column-place C c.loop-i-test.true c.label.ensures.result_value c.in-Is.is in record { skips = c.requires.skips; index_at = c.requires.index_at; place_at = (
-            c.requires.plan_at.0,
-            T,
-            S,
-          ); depth_bound = (omega arith, length-replicate {A = ℕ} 64 0) }
+    c.in-Is.is).field.head in let S = column-place C c.loop-i-test.true c.label.ensures.result_value c.in-Is.is in record {
+      skips = c.requires.skips;
+      index_at = c.requires.index_at;
+      place_at = (
+        c.requires.plan_at.0,
+        T,
+        S,
+      );
+      depth_bound = (omega arith, length-replicate {A = ℕ} 64 0);
+    }
 
 pub returns-then-not-meets_type : goal.returns-then-not-meets_type
 returns-then-not-meets_type c =

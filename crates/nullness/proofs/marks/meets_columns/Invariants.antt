@@ -1,13 +1,5 @@
-use Rattle.nullness.proofs.Meeting.{Columnings, columning_start, columning_all, column-place, columning-fails, columning-more}
-use Rattle.nullness.proofs.Placing.{untold}
-use Rattle.overflow.proofs.Columns.{pair-labelled, next, column_type}
-use Rattle.plan.proofs.Skipping.{told}
-use lib.ListN.{length-replicate}
-use native.Mathlib.Omega.{arith}
-use Prim.Native.Nat.{ℕ, ◌-◌}
-use borrow.Author.Rules.{rules}
-use mathlib.Core.Path.{ap}
-use mathlib.Core.Bool.{not}
+use Rattle.nullness.proofs.Meeting.{Columnings}
+use Prim.Native.Nat.{◌-◌}
 use Rattle.nullness.proofs.marks.meets_columns.Given as goal
 
 abbrev pub invariant-loop-i : goal.invariant-loop-i

@@ -4,7 +4,6 @@ use lib.Seq.{length-take-le}
 use Rattle.plan.proofs.Skipping.{skips-none}
 use Rattle.nullness.proofs.Marking.{stride_as}
 use Rattle.nullness.proofs.NullsTable.{nulls_none}
-use borrow.Author.Rules.{rules}
 use Rattle.nullness.proofs.marks.meets_marks.Goals as goal
 
 pub slice_bounds-meets_columns-end : goal.slice_bounds-meets_columns-end

@@ -3,7 +3,6 @@
 use Rattle.nullness.proofs.Meeting.{place-optional, place_follows, place_filled}
 use Rattle.nullness.proofs.Placing.{untold}
 use Rattle.plan.proofs.Skipping.{told}
-use borrow.Author.Rules.{rules}
 use mathlib.Core.Path.{ap}
 use mathlib.Core.Bool.{not}
 use Rattle.nullness.proofs.marks.meets_place.Goals as goal
@@ -14,11 +13,15 @@ returns-then-not-required c =
 
 pub follow-requires : goal.follow-requires
 follow-requires c =
-    record { skips = c.requires.skips; index_at = c.requires.index_at; follows = (
-          c.requires.place_at.0,
-          place_follows _ _ c.requires.place_at.2 c.requires.len_bound.1 c.requires.len_bound.0
-              c.start.ensures,
-        ) }
+    record {
+      skips = c.requires.skips;
+      index_at = c.requires.index_at;
+      follows = (
+        c.requires.place_at.0,
+        place_follows _ _ c.requires.place_at.2 c.requires.len_bound.1 c.requires.len_bound.0
+            c.start.ensures,
+      );
+    }
 
 pub returns : goal.returns
 returns c =

@@ -1,6 +1,5 @@
 -- `nullness::nulls::element_start` meets its contract: by the label. Assumes nothing.
 use Rattle.nullness.proofs.Looking.{at-element, no_part}
-use borrow.Author.Rules.{rules}
 use Rattle.nullness.proofs.nulls.element_start.Goals as goal
 
 pub returns-in-Is : goal.returns-in-Is

@@ -1,6 +1,5 @@
 -- `nullness::nulls::field_start` meets its contract: behind the fields before it and its label. Assumes nothing.
 use Rattle.nullness.proofs.Looking.{at_field, no_part}
-use borrow.Author.Rules.{rules}
 use Rattle.nullness.proofs.nulls.field_start.Goals as goal
 
 pub returns-in-Is : goal.returns-in-Is

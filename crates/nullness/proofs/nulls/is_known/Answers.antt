@@ -1,7 +1,6 @@
 -- `nullness::nulls::is_known` meets its contract: by the word of the offset. Assumes nothing.
 use Rattle.layout.proofs.Ways.{clash}
 use Rattle.nullness.proofs.NullsTable.{known_is}
-use borrow.Author.Rules.{rules}
 use Rattle.nullness.proofs.nulls.is_known.Goals as goal
 
 pub returns-then-at-ge-LONGEST_PLAN : goal.returns-then-at-ge-LONGEST_PLAN

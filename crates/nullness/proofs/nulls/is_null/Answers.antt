@@ -1,7 +1,6 @@
 -- `nullness::nulls::is_null` meets its contract: by the bit of the offset. Assumes nothing.
 use Rattle.layout.proofs.Ways.{clash}
 use Rattle.nullness.proofs.NullsTable.{bit_test}
-use borrow.Author.Rules.{rules}
 use Rattle.nullness.proofs.nulls.is_null.Goals as goal
 
 pub returns-then-at-ge-LONGEST_PLAN : goal.returns-then-at-ge-LONGEST_PLAN

@@ -1,6 +1,5 @@
 -- `nullness::nulls::keep_constant` meets its contract: one constant more. Assumes nothing.
 use Rattle.nullness.proofs.NullsTable.{nulls_constant}
-use borrow.Author.Rules.{rules}
 use Rattle.nullness.proofs.nulls.keep_constant.Goals as goal
 
 pub returns-then-at-ge-LONGEST_PLAN : goal.returns-then-at-ge-LONGEST_PLAN

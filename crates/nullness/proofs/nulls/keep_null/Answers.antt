@@ -1,6 +1,5 @@
 -- `nullness::nulls::keep_null` meets its contract: one bit more. Assumes nothing.
 use Rattle.nullness.proofs.NullsTable.{null_lost, null-kept}
-use borrow.Author.Rules.{rules}
 use Rattle.nullness.proofs.nulls.keep_null.Goals as goal
 
 pub returns-then-at-ge-LONGEST_PLAN : goal.returns-then-at-ge-LONGEST_PLAN

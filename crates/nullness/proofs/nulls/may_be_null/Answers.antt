@@ -1,9 +1,7 @@
 -- `nullness::nulls::may_be_null` meets its contract: the loop keeps `Looking`. Assumes nothing.
 use Rattle.plan.proofs.Skipping.{told}
 use Rattle.layout.proofs.Ways.{clash}
-use Rattle.nullness.proofs.Looking.{Looking, looking_start, looking_more, looking_clean}
-use Prim.Native.Nat.{◌-◌}
-use borrow.Author.Rules.{rules}
+use Rattle.nullness.proofs.Looking.{looking_start, looking_more, looking_clean}
 use mathlib.Core.Path.{ap}
 use mathlib.Core.Bool.{not}
 use Rattle.nullness.proofs.nulls.may_be_null.Goals as goal

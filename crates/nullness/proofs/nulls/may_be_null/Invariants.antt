@@ -1,10 +1,5 @@
-use Rattle.plan.proofs.Skipping.{told}
-use Rattle.layout.proofs.Ways.{clash}
-use Rattle.nullness.proofs.Looking.{Looking, looking_start, looking_more, looking_clean}
+use Rattle.nullness.proofs.Looking.{Looking}
 use Prim.Native.Nat.{◌-◌}
-use borrow.Author.Rules.{rules}
-use mathlib.Core.Path.{ap}
-use mathlib.Core.Bool.{not}
 use Rattle.nullness.proofs.nulls.may_be_null.Given as goal
 
 abbrev pub invariant-loop-i : goal.invariant-loop-i

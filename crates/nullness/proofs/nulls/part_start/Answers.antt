@@ -1,6 +1,5 @@
 -- `nullness::nulls::part_start` meets its contract: by what the type begins with. Assumes nothing.
 use Rattle.nullness.proofs.Looking.{no_part, part_field, part-list, part-array}
-use borrow.Author.Rules.{rules}
 use Rattle.nullness.proofs.nulls.part_start.Goals as goal
 
 pub returns-in-Leaf : goal.returns-in-Leaf

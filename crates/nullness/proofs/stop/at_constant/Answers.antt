@@ -2,7 +2,6 @@
 use mathlib.Core.Path.{refl, sym}
 use Rattle.nullness.proofs.Placing.{untold}
 use Rattle.nullness.proofs.Stopping.{constant-null, constant-filled}
-use borrow.Author.Rules.{rules}
 use mathlib.Core.Path.{ap}
 use mathlib.Core.Bool.{not}
 use Rattle.nullness.proofs.stop.at_constant.Goals as goal

@@ -1,6 +1,5 @@
 -- `nullness::stop::at_position` meets its contract: by the number of entered mappings. Assumes nothing.
 use Rattle.nullness.proofs.Stopping.{position_in, position-top}
-use borrow.Author.Rules.{rules}
 use Rattle.nullness.proofs.stop.at_position.Goals as goal
 
 pub returns-then-w-gt0 : goal.returns-then-w-gt0

@@ -2,7 +2,6 @@
 use Rattle.nullness.proofs.Stopping.{constant_stop_lem, cast_stop_lem, rename_stop, struct_stop_lem, list_stop_lem, array_stop}
 use Rattle.overflow.proofs.Stops.{position_stop, constant-raw, path_room}
 use Rattle.walk.proofs.Heads.{never_refused}
-use borrow.Author.Rules.{rules}
 use Rattle.nullness.proofs.stop.at_stop.Goals as goal
 
 pub at_position-requires : goal.at_position-requires

@@ -1,5 +1,4 @@
 -- `numeric::decimals::within_precision` meets its contract: a law of `Magnitude` for each way. Assumes nothing.
-use borrow.Author.Rules.{rules}
 use Rattle.numeric.proofs.Magnitude.{within_low, within_high, within-long}
 use Rattle.numeric.proofs.decimals.within_precision.Goals as goal
 

@@ -3,15 +3,13 @@ use Rattle.numeric.specs.Floats.{converted, precision_of, emax_of, float_to_floa
 use Rattle.numeric.proofs.Conversions.{fitting-at}
 use Prim.Native.Nat.{ℕ}
 use mathlib.Core.Path.{ap₂, ◌∙◌}
-use borrow.Author.Rules.{rules}
 use Rattle.numeric.proofs.floats.convert.Goals as goal
 
 pub convert_pattern-requires : goal.convert_pattern-requires
-convert_pattern-requires c =
-    (
-      fitting-at c.args.from c.precision.result c.max_exponent.result c.precision.ensures c.max_exponent.ensures,
-      fitting-at c.args.to c.precision-2.result c.max_exponent-2.result c.precision-2.ensures c.max_exponent-2.ensures,
-    )
+convert_pattern-requires c = (
+  fitting-at c.args.from c.precision.result c.max_exponent.result c.precision.ensures c.max_exponent.ensures,
+  fitting-at c.args.to c.precision-2.result c.max_exponent-2.result c.precision-2.ensures c.max_exponent-2.ensures,
+)
 
 pub returns : goal.returns
 returns c =

@@ -6,7 +6,6 @@ use lib.Pow.{pow_pos, pow_mono}
 use native.Mathlib.Omega.{arith}
 use Prim.Native.Nat.{ℕ, ◌-◌, ◌^◌, ◌≤◌, ◌<◌}
 use mathlib.Core.Path.{◌≡◌, sym, subst}
-use borrow.Author.Rules.{rules}
 use Rattle.numeric.proofs.floats.convert_finite.Goals as goal
 
 pub nonzero_div-e : goal.nonzero_div-e

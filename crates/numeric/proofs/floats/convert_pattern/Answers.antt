@@ -6,7 +6,6 @@ use native.Mathlib.Nat.{le_of_eq}
 use native.Mathlib.Omega.{arith}
 use Prim.Native.Nat.{ℕ, ◌+◌, ◌≤◌, ◌<◌}
 use mathlib.Core.Path.{sym, ap₂, ◌∙◌, subst}
-use borrow.Author.Rules.{rules}
 use Rattle.numeric.proofs.floats.convert_pattern.Goals as goal
 
 pub nonzero_rem-m : goal.nonzero_rem-m

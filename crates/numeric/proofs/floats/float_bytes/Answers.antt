@@ -1,5 +1,4 @@
 -- `numeric::floats::float_bytes` meets its contract: each arm is a case of `floatBytes`. Assumes nothing.
-use borrow.Author.Rules.{rules}
 use Rattle.numeric.proofs.floats.float_bytes.Goals as goal
 
 pub returns-in-Binary16 : goal.returns-in-Binary16

@@ -9,7 +9,6 @@ use Rattle.numeric.specs.code.Answers.{whole_of}
 use Rattle.numeric.specs.Rounding.{infinity}
 use Rattle.numeric.proofs.TwosComplement.{negative_lt}
 use Rattle.numeric.proofs.Conversions.{fitting-at, sign_le, infinity_lt, rounded_le, unsigned_is, negative_is}
-use borrow.Author.Rules.{rules}
 use Rattle.numeric.proofs.floats.from_integer.Goals as goal
 
 pub round_to-requires : goal.round_to-requires

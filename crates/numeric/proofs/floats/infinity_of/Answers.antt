@@ -3,7 +3,6 @@ use Rattle.numeric.proofs.Conversions.{sign_le, infinity_lt}
 use native.Mathlib.Omega.{arith}
 use Prim.Native.Nat.{ℕ, ◌+◌, ◌-◌, ◌*◌, ◌^◌}
 use mathlib.Core.Path.{◌≡◌, ap}
-use borrow.Author.Rules.{rules}
 use Rattle.numeric.proofs.floats.infinity_of.Goals as goal
 
 pub overflow_mul-result-2 : goal.overflow_mul-result-2

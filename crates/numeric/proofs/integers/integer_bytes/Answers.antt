@@ -1,5 +1,4 @@
 -- `numeric::integers::integer_bytes` meets its contract: each arm is a case of `integerBytes`. Assumes nothing.
-use borrow.Author.Rules.{rules}
 use Rattle.numeric.proofs.integers.integer_bytes.Goals as goal
 
 pub returns-in-Int8 : goal.returns-in-Int8

@@ -1,7 +1,6 @@
 -- `numeric::integers::last` meets its contract. Twice the top bit's weight, less 1. Assumes nothing.
 use native.Mathlib.Omega.{arith}
 use Rattle.numeric.proofs.TwosComplement.{half_pos, half_le, last-is}
-use borrow.Author.Rules.{rules}
 use Rattle.numeric.proofs.integers.last.Goals as goal
 
 pub overflow_sub-result : goal.overflow_sub-result

@@ -2,7 +2,6 @@
 use Prim.Native.Nat.{◌/◌}
 use native.Mathlib.Omega.{arith}
 use Rattle.numeric.proofs.TwosComplement.{sign_one, half_pos, half_le, low-is, low_fits}
-use borrow.Author.Rules.{rules}
 use Rattle.numeric.proofs.integers.low.Goals as goal
 
 pub nonzero_div-result : goal.nonzero_div-result

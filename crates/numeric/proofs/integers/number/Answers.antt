@@ -1,7 +1,6 @@
 -- `numeric::integers::number` meets its contract. By whether the kind has a sign. Assumes nothing.
 use mathlib.Core.Path.{sym, ◌∙◌}
 use Rattle.numeric.proofs.TwosComplement.{bits_at, number-signed, number-unsigned}
-use borrow.Author.Rules.{rules}
 use Rattle.numeric.proofs.integers.number.Goals as goal
 
 pub signed_number-requires : goal.signed_number-requires

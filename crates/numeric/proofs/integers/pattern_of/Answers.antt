@@ -4,7 +4,6 @@ use mathlib.Core.Path.{sym, ap, ◌∙◌}
 use Rattle.numeric.specs.Integers.{pattern}
 use Rattle.numeric.specs.code.Answers.{whole_of}
 use Rattle.numeric.proofs.TwosComplement.{last-low, low-pattern}
-use borrow.Author.Rules.{rules}
 use Rattle.numeric.proofs.integers.pattern_of.Goals as goal
 
 pub overflow_sub-result : goal.overflow_sub-result

@@ -2,7 +2,6 @@
 use native.Mathlib.Omega.{arith}
 use native.Mathlib.Nat.{mod-lt}
 use Rattle.numeric.proofs.TwosComplement.{half_pos, clear-is, set_is}
-use borrow.Author.Rules.{rules}
 use Rattle.numeric.proofs.integers.signed_number.Goals as goal
 
 pub nonzero_rem-rest : goal.nonzero_rem-rest

@@ -2,7 +2,6 @@
 use mathlib.Core.Path.{ap₂, ◌∙◌}
 use Rattle.numeric.specs.Integers.{pattern, widened}
 use Rattle.numeric.proofs.TwosComplement.{bits_at}
-use borrow.Author.Rules.{rules}
 use Rattle.numeric.proofs.integers.widen.Goals as goal
 
 pub pattern_of-requires : goal.pattern_of-requires

@@ -1,6 +1,5 @@
 -- `numeric::round::power` meets its contract. A shift of 1 loses nothing below 64. Assumes nothing.
 use Rattle.numeric.proofs.Shifts.{one_shl}
-use borrow.Author.Rules.{rules}
 use Rattle.numeric.proofs.round.power.Goals as goal
 
 pub returns : goal.returns

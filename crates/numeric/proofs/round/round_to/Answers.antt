@@ -7,7 +7,6 @@ use native.Mathlib.Nat.{zero-mul, lt_of_lt_of_le}
 use native.Mathlib.Omega.{arith}
 use Prim.Native.Nat.{ℕ, ◌+◌, ◌-◌, ◌*◌, ◌^◌, ◌≤◌, ◌<◌, min}
 use mathlib.Core.Path.{◌≡◌, sym, ap, ◌∙◌, subst}
-use borrow.Author.Rules.{rules}
 use Rattle.numeric.proofs.round.round_to.Goals as goal
 
 -- what is handed to `scaled` has at most 53 digits before its point

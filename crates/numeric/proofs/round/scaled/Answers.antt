@@ -3,7 +3,6 @@ use mathlib.Core.Path.{sym, ◌∙◌}
 use native.Mathlib.Omega.{arith}
 use native.Mathlib.Nat.{le_of_lt}
 use Rattle.numeric.proofs.Shifts.{shift_small, shift_is, closest-right}
-use borrow.Author.Rules.{rules}
 use Rattle.numeric.proofs.round.scaled.Goals as goal
 
 pub overflow_shl-result : goal.overflow_shl-result

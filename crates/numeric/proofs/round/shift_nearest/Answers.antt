@@ -5,7 +5,6 @@ use native.Mathlib.Omega.{arith}
 use lib.Pow.{pow_pos, shr_le}
 use lib.Ieee.Nearest.{closest}
 use Rattle.numeric.proofs.Shifts.{closest-one, closest-none, half_less, half_tie, half_more}
-use borrow.Author.Rules.{rules}
 use Rattle.numeric.proofs.round.shift_nearest.Goals as goal
 
 pub returns-then-s-eq0 : goal.returns-then-s-eq0

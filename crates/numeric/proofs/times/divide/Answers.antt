@@ -3,7 +3,6 @@ use Rattle.numeric.proofs.Units.{positive-down, negative_down}
 use native.Mathlib.Nat.{div-le_self}
 use native.Mathlib.Omega.{arith}
 use Prim.Native.Nat.{◌-◌}
-use borrow.Author.Rules.{rules}
 use Rattle.numeric.proofs.times.divide.Goals as goal
 
 pub returns-then-b-lt-HALF : goal.returns-then-b-lt-HALF

@@ -3,7 +3,6 @@ use Rattle.numeric.proofs.Units.{positive-fits, positive_large, negative_fits, n
 use native.Mathlib.Nat.{le-div_iff_mul-le, div-lt_iff_lt-mul}
 use native.Mathlib.Omega.{arith}
 use Prim.Native.Nat.{◌+◌, ◌-◌, ◌*◌, ◌/◌, ◌≤◌, ◌<◌}
-use borrow.Author.Rules.{rules}
 use Rattle.numeric.proofs.times.multiply.Goals as goal
 
 pub overflow_mul-result : goal.overflow_mul-result

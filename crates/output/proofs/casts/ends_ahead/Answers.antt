@@ -1,6 +1,5 @@
 use Rattle.walk.proofs.Walks.{walk_small, walk_inside}
 use native.Mathlib.Omega.{arith}
-use borrow.Author.Rules.{rules}
 use Rattle.output.proofs.casts.ends_ahead.Goals as goal
 
 pub bounds-plan-at : goal.bounds-plan-at

@@ -1,10 +1,5 @@
-use Rattle.output.proofs.Passing.{Passing, passing_none, passing_goes, passing_casts, passing_small, passing_origin, is-ends, is-goes, is-casts}
-use Rattle.walk.specs.code.Walks.{WalkAt, rank}
-use Rattle.walk.specs.code.Ends.{EndsAt}
-use Rattle.walk.specs.code.Moves.{Stopped}
-use Rattle.walk.specs.code.State.{State}
+use Rattle.output.proofs.Passing.{passing_none, passing_goes, passing_casts, passing_small, passing_origin, is-ends, is-goes, is-casts}
 use native.Mathlib.Omega.{arith}
-use borrow.Author.Rules.{rules}
 use Rattle.output.proofs.casts.find_origin.Goals as goal
 
 pub loop-at-init : goal.loop-at-init

@@ -1,10 +1,8 @@
-use Rattle.output.proofs.Passing.{Passing, passing_none, passing_goes, passing_casts, passing_small, passing_origin, is-ends, is-goes, is-casts}
+use Rattle.output.proofs.Passing.{Passing}
 use Rattle.walk.specs.code.Walks.{WalkAt, rank}
 use Rattle.walk.specs.code.Ends.{EndsAt}
 use Rattle.walk.specs.code.Moves.{Stopped}
 use Rattle.walk.specs.code.State.{State}
-use native.Mathlib.Omega.{arith}
-use borrow.Author.Rules.{rules}
 use Rattle.output.proofs.casts.find_origin.Given as goal
 
 abbrev pub invariant-loop-at : goal.invariant-loop-at

@@ -1,13 +1,10 @@
-use Rattle.output.proofs.Passing.{is-ends, is-goes, is-casts, Ahead, Keeping}
-use Rattle.output.proofs.Passing.{ahead_all, ahead_ends, keeping_none, keeping_all, keeping_goes, keeping_casts}
+use Rattle.output.proofs.Passing.{Ahead, Keeping}
 use Rattle.walk.specs.code.Walks.{WalkAt, rank}
 use Rattle.walk.specs.code.Ends.{EndsAt}
 use Rattle.walk.specs.code.Moves.{Stopped}
 use Rattle.walk.specs.code.State.{State}
 use Rattle.layout.specs.declared.leaf.Leaf.{Leaf}
-use mathlib.Core.Path.{refl}
 use mathlib.Core.List.{List}
-use borrow.Author.Rules.{rules}
 use Rattle.output.proofs.casts.last_kinds.Given as goal
 
 abbrev pub invariant-loop-left : goal.invariant-loop-left

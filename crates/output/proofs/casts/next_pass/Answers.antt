@@ -2,7 +2,6 @@ use Rattle.output.proofs.Passing.{pass-ends, pass-rename, pass_below, pass-at-en
 use Rattle.walk.proofs.Walks.{path-some, path-none}
 use Rattle.walk.proofs.Heads.{is_position_lem, is-constant, is-cast, is-rename, is_struct_mapping, is_list_mapping, is-array, never_refused}
 use mathlib.Core.Path.{sym, ◌∙◌}
-use borrow.Author.Rules.{rules}
 use Rattle.output.proofs.casts.next_pass.Goals as goal
 
 pub returns-then-w : goal.returns-then-w

@@ -1,6 +1,5 @@
 use Rattle.output.proofs.Passing.{type-leaf, type-struct, type-list, type-array}
 use Rattle.layout.proofs.View.{never_headless}
-use borrow.Author.Rules.{rules}
 use Rattle.output.proofs.casts.pass_cast.Goals as goal
 
 pub returns-in-Leaf : goal.returns-in-Leaf

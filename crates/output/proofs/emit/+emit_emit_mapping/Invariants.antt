@@ -1,24 +1,16 @@
-use Rattle.output.proofs.Emitting.{emitted, emitted_null, emitted_node, mapped_asks, mapped-emits, struct-mapped, list-mapped, array-mapped}
-use Rattle.output.proofs.Emitting.{constant-run, constant_skipped, mapping-null, mapping-counted, mapping-parts}
-use Rattle.output.proofs.Emitting.{Rowing, rowing_none, rowing_past, rowing_all, rowing_small, rowing_more, all-clean}
-use Rattle.output.proofs.Emitting.{parts_asks, part_reached, part_room, part-emit, part_falls, part-emits}
-use Rattle.raw.proofs.Storing.{stores_as}
-use Rattle.output.proofs.Sources.{from_null, from_record, from-constant, from-struct, from_list, from-array, never_sourced}
+use Rattle.output.proofs.Emitting.{Rowing}
 use Rattle.output.specs.code.Answers.{EmitAt, Mapped}
 use Rattle.walk.specs.code.Walks.{rank}
 use Rattle.walk.specs.code.Children.{Reached}
 use Rattle.walk.specs.declared.walk.Walk.{Walk}
-use Rattle.walk.proofs.Children.{reached_child}
 use Rattle.layout.specs.Bytes.{Bytes}
 use Rattle.layout.specs.declared.edition.Edition.{Edition}
 use Rattle.walk.specs.code.Values.{state_value}
 use Rattle.plan.specs.Reach.{parts}
 use Rattle.values.specs.Value.{count_values}
 use lib.ListN.{length}
-use mathlib.Core.Path.{◌≡◌, refl, ◌∙◌}
-use Prim.Native.Nat.{◌+◌, ◌*◌, ◌-◌, ℕ, ◌<◌}
-use native.Mathlib.Omega.{arith}
-use borrow.Author.Rules.{rules}
+use mathlib.Core.Path.{◌≡◌}
+use Prim.Native.Nat.{◌+◌, ◌*◌, ◌-◌, ℕ}
 use Rattle.output.proofs.emit.+emit_emit_mapping.Given as goal
 
 -- how many parts there are

@@ -1,5 +1,4 @@
 use Rattle.output.proofs.Emitting.{walk_listed, walk_unlisted}
-use borrow.Author.Rules.{rules}
 use Rattle.output.proofs.emit.is_list.Goals as goal
 
 pub returns-then-plan-at-eq5 : goal.returns-then-plan-at-eq5

@@ -2,7 +2,6 @@ use Rattle.ends.proofs.Entries.{ends-none}
 use Rattle.raw.proofs.Storing.{stores_as}
 use Rattle.output.proofs.Casting.{stores_uncast}
 use mathlib.Core.Path.{refl, ◌∙◌}
-use borrow.Author.Rules.{rules}
 use Rattle.output.proofs.emit.put_part.Goals as goal
 
 pub returns-then-casts-eq0 : goal.returns-then-casts-eq0

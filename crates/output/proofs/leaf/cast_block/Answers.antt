@@ -1,11 +1,5 @@
 use Rattle.output.proofs.Casting.{casting_to, block_all, block_number, block_overflow}
-use Rattle.output.specs.code.Chain.{Kept, Casting}
-use Rattle.values.specs.Value.{Value, vnumber}
-use Rattle.layout.specs.declared.leaf.Leaf.{Leaf}
-use mathlib.Core.List.{List}
-use Prim.Native.Nat.{ℕ, ◌-◌, ◌≤◌}
 use native.Mathlib.Omega.{arith}
-use borrow.Author.Rules.{rules}
 use Rattle.output.proofs.leaf.cast_block.Goals as goal
 
 pub loop-m-init : goal.loop-m-init
@@ -14,8 +8,7 @@ loop-m-init c =
 
 pub loop-m-preserved : goal.loop-m-preserved
 loop-m-preserved c =
-    let (a, f) = c.loop-m.invariant in
-    (
+    let (a, f) = c.loop-m.invariant in (
       omega (arith, c.loop-m-test.true),
       λ ks u i K C h. block_number K (f ks u i K C h) h c.requires c.loop-m-test.true _ c.convert_leaf.ensures c.in-Number.is,
     )

@@ -1,11 +1,8 @@
-use Rattle.output.proofs.Casting.{casting_to, block_all, block_number, block_overflow}
 use Rattle.output.specs.code.Chain.{Kept, Casting}
 use Rattle.values.specs.Value.{Value, vnumber}
 use Rattle.layout.specs.declared.leaf.Leaf.{Leaf}
 use mathlib.Core.List.{List}
 use Prim.Native.Nat.{ℕ, ◌-◌, ◌≤◌}
-use native.Mathlib.Omega.{arith}
-use borrow.Author.Rules.{rules}
 use Rattle.output.proofs.leaf.cast_block.Given as goal
 
 abbrev pub invariant-loop-m : goal.invariant-loop-m

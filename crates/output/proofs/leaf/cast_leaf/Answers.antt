@@ -1,6 +1,5 @@
 use Rattle.output.proofs.Casting.{left_uncast, left_other, left-cast}
 use mathlib.Core.Path.{◌∙◌}
-use borrow.Author.Rules.{rules}
 use Rattle.output.proofs.leaf.cast_leaf.Goals as goal
 
 pub returns-then-casts-eq0 : goal.returns-then-casts-eq0

@@ -1,14 +1,5 @@
 use Rattle.output.proofs.Casting.{casting_none, casting_all, cast_number, cast-overflow}
-use Rattle.output.specs.code.Chain.{Passed, Casting}
-use Rattle.walk.specs.code.Walks.{WalkAt}
-use Rattle.walk.specs.code.State.{State}
-use Rattle.values.specs.Value.{vnumber}
-use Rattle.layout.specs.declared.leaf.Leaf.{Leaf}
-use lib.ListN.{length}
-use mathlib.Core.List.{List}
-use mathlib.Core.Path.{◌≡◌}
 use native.Mathlib.Omega.{arith}
-use borrow.Author.Rules.{rules}
 use Rattle.output.proofs.leaf.cast_number.Goals as goal
 
 pub loop-i-init : goal.loop-i-init
@@ -33,8 +24,7 @@ loop-i-smaller c =
 
 pub loop-i-preserved : goal.loop-i-preserved
 loop-i-preserved c =
-    let (R, f) = c.loop-i.invariant in
-    (
+    let (R, f) = c.loop-i.invariant in (
       R,
       λ y z ks W p e.
           let C = f y z ks W p e in

@@ -1,4 +1,3 @@
-use Rattle.output.proofs.Casting.{casting_none, casting_all, cast_number, cast-overflow}
 use Rattle.output.specs.code.Chain.{Passed, Casting}
 use Rattle.walk.specs.code.Walks.{WalkAt}
 use Rattle.walk.specs.code.State.{State}
@@ -7,8 +6,6 @@ use Rattle.layout.specs.declared.leaf.Leaf.{Leaf}
 use lib.ListN.{length}
 use mathlib.Core.List.{List}
 use mathlib.Core.Path.{◌≡◌}
-use native.Mathlib.Omega.{arith}
-use borrow.Author.Rules.{rules}
 use Rattle.output.proofs.leaf.cast_number.Given as goal
 
 abbrev pub invariant-loop-i : goal.invariant-loop-i

@@ -2,7 +2,6 @@ use Rattle.raw.proofs.Storing.{number_short}
 use Rattle.output.proofs.Casting.{stores-number, stores-overflow}
 use mathlib.Core.Path.{refl}
 use native.Mathlib.Omega.{arith}
-use borrow.Author.Rules.{rules}
 use Rattle.output.proofs.leaf.put_cast.Goals as goal
 
 pub overflow_add-result : goal.overflow_add-result

@@ -1,6 +1,5 @@
 use Rattle.output.proofs.Casting.{stores_same, stores-cast}
 use native.Mathlib.Omega.{arith}
-use borrow.Author.Rules.{rules}
 use Rattle.output.proofs.leaf.put_raw.Goals as goal
 
 pub copy_raw-requires : goal.copy_raw-requires

@@ -1,11 +1,7 @@
-use Rattle.output.proofs.Asking.{Asking, asking_answer, asking_input, asking_outward, is-answer, is-input, is-outward}
+use Rattle.output.proofs.Asking.{Asking}
 use Rattle.nodes.specs.code.Raw.{RowAt}
-use Rattle.walk.proofs.Walks.{walk_starts, outward_asks, frames-deep}
 use Rattle.walk.specs.code.Walks.{WalkAt, rank}
 use Rattle.walk.specs.code.State.{State}
-use mathlib.Core.Path.{refl}
-use native.Mathlib.Omega.{arith}
-use borrow.Author.Rules.{rules}
 use Rattle.output.proofs.parts.ask.Given as goal
 
 abbrev pub invariant-loop-p : goal.invariant-loop-p

@@ -1,7 +1,6 @@
 use Rattle.output.proofs.Asking.{constant-none, constant-top, constant-inside}
 use Rattle.walk.proofs.Walks.{top-frames, some-inner}
 use native.Mathlib.Omega.{arith}
-use borrow.Author.Rules.{rules}
 use Rattle.output.proofs.parts.ask_constant.Goals as goal
 
 pub returns-then-w-eq0 : goal.returns-then-w-eq0

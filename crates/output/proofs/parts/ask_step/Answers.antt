@@ -1,7 +1,6 @@
 use Rattle.output.proofs.Asking.{null-asked, raw-asked, list-asked, array-asked, constant-met}
 use Rattle.output.proofs.Sources.{from_null, from_record, from-constant, from-struct, from_list, from-array, never_sourced}
 use mathlib.Core.Path.{refl}
-use borrow.Author.Rules.{rules}
 use Rattle.output.proofs.parts.ask_step.Goals as goal
 
 pub source_at-requires : goal.source_at-requires

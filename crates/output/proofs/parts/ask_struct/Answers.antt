@@ -1,5 +1,4 @@
 use Rattle.output.proofs.Asking.{struct-none, struct-some}
-use borrow.Author.Rules.{rules}
 use Rattle.output.proofs.parts.ask_struct.Goals as goal
 
 pub returns-in-None : goal.returns-in-None

@@ -1,5 +1,4 @@
 use Rattle.output.proofs.Emitting.{constant-null, constant-within}
-use borrow.Author.Rules.{rules}
 use Rattle.output.proofs.parts.is_constant_run.Goals as goal
 
 pub returns-then-is_null : goal.returns-then-is_null

@@ -1,7 +1,6 @@
 use Rattle.output.proofs.Asking.{run-top, run_none, run-some}
 use Rattle.walk.proofs.Walks.{top-frames, some-inner, outward_asks}
 use native.Mathlib.Omega.{arith}
-use borrow.Author.Rules.{rules}
 use Rattle.output.proofs.parts.is_run.Goals as goal
 
 pub returns-then-w-eq0 : goal.returns-then-w-eq0

@@ -2,7 +2,6 @@ use Rattle.output.proofs.Inside.{least_of-fields, least_of-element}
 use Rattle.walk.proofs.Moving.{inner-inside}
 use mathlib.Core.Path.{◌∙◌}
 use native.Mathlib.Omega.{arith}
-use borrow.Author.Rules.{rules}
 use Rattle.output.proofs.parts.least_of.Goals as goal
 
 pub bounds-plan-m : goal.bounds-plan-m

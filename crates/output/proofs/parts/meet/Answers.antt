@@ -1,5 +1,4 @@
 use Rattle.output.proofs.Asking.{meet-none, meet-few, meet_own, meet-known}
-use borrow.Author.Rules.{rules}
 use Rattle.output.proofs.parts.meet.Goals as goal
 
 pub returns-then-c-least : goal.returns-then-c-least

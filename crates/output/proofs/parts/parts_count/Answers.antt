@@ -1,6 +1,5 @@
 use Rattle.output.proofs.Asking.{answer-count}
 use mathlib.Core.Path.{◌∙◌}
-use borrow.Author.Rules.{rules}
 use Rattle.output.proofs.parts.parts_count.Goals as goal
 
 pub returns : goal.returns

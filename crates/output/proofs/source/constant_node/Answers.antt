@@ -1,6 +1,5 @@
 use Rattle.ends.proofs.Entries.{ends-none}
 use mathlib.Core.Path.{refl}
-use borrow.Author.Rules.{rules}
 use Rattle.raw.proofs.Constants.{constant-raw}
 use Rattle.output.proofs.Sources.{node-valued}
 use Rattle.output.proofs.source.constant_node.Goals as goal

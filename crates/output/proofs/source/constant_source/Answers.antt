@@ -1,4 +1,3 @@
-use borrow.Author.Rules.{rules}
 use Rattle.output.proofs.source.constant_source.Goals as goal
 
 pub returns-in-At : goal.returns-in-At

@@ -2,7 +2,6 @@ use Rattle.output.proofs.Sources.{source-column, source-lost, source-constant, n
 use Rattle.raw.proofs.Constants.{constant-part}
 use Rattle.walk.proofs.Heads.{is_position_lem, is-constant, is-cast, is-rename, is_struct_mapping, is_list_mapping, is-array, never_refused}
 use native.Mathlib.Omega.{arith}
-use borrow.Author.Rules.{rules}
 use Rattle.output.proofs.source.source_at.Goals as goal
 
 pub column_node-requires : goal.column_node-requires

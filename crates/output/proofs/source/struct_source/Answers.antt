@@ -1,5 +1,4 @@
 use Rattle.output.proofs.Sources.{struct-below, struct-ended}
-use borrow.Author.Rules.{rules}
 use Rattle.output.proofs.source.struct_source.Goals as goal
 
 pub returns-then-w : goal.returns-then-w

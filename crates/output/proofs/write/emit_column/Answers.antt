@@ -1,6 +1,5 @@
 use Rattle.output.proofs.Whole.{top_asks, top-emits}
 use native.Mathlib.Omega.{arith}
-use borrow.Author.Rules.{rules}
 use Rattle.output.proofs.write.emit_column.Goals as goal
 
 pub emit-requires : goal.emit-requires

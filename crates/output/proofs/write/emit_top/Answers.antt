@@ -1,5 +1,4 @@
 use Rattle.plan.proofs.Skipping.{skips-none}
-use borrow.Author.Rules.{rules}
 use Rattle.output.proofs.write.emit_top.Goals as goal
 
 pub emit_column-requires : goal.emit_column-requires

@@ -1,6 +1,5 @@
 use Rattle.output.proofs.Whole.{aside_exceeds, aside_tight, aside_fits}
 use native.Mathlib.Omega.{arith}
-use borrow.Author.Rules.{rules}
 use Rattle.output.proofs.write.hand_over.Goals as goal
 
 pub returns-then-len-gt-LONGEST : goal.returns-then-len-gt-LONGEST
@@ -12,13 +11,12 @@ returns-then-out-len c =
     λ ρ ss a x z E. aside_tight ρ ss x z E (omega (arith, c.if-len-gt-LONGEST.false)) c.args.out.now c.if-out-len.true
 
 pub copy-requires : goal.copy-requires
-copy-requires c =
-    (
-      omega arith,
-      c.requires (omega (arith, c.if-len-gt-LONGEST.false)),
-      omega
-          (arith, c.if-len-gt-LONGEST.false),
-    )
+copy-requires c = (
+  omega arith,
+  c.requires (omega (arith, c.if-len-gt-LONGEST.false)),
+  omega
+      (arith, c.if-len-gt-LONGEST.false),
+)
 
 pub returns : goal.returns
 returns c =

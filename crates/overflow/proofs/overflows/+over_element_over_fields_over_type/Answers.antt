@@ -1,12 +1,10 @@
 -- `overflow::overflows::over_type`, `over_element` and `over_fields` meet their contracts: they call each other with
 -- the depth of the type falling; the loop keeps `Fieldings`. Assumes nothing.
-use Rattle.overflow.proofs.Paths.{Fieldings, step_top, step_leaves, step_room, step_deep, time_leaves, never_leaves, struct-leaves, list-leaves}
+use Rattle.overflow.proofs.Paths.{step_top, step_leaves, step_room, step_deep, time_leaves, never_leaves, struct-leaves, list-leaves}
 use Rattle.overflow.proofs.Paths.{array-leaves, element-leaves}
 use Rattle.overflow.proofs.Paths.{fielding_none, fielding_all, fielding_labelled, fielding-type, fielding-found, fielding-more}
 use Rattle.overflow.proofs.Elements.{list_element_lem, array_element_lem, element-type, element-labelled}
 use Rattle.layout.proofs.View.{deep, struct_at, never_headless}
-use borrow.Author.Rules.{rules}
-use Prim.Native.Nat.{ℕ, ◌<◌, ◌+◌, ◌-◌, ◌*◌}
 use native.Mathlib.Omega.{arith}
 use Rattle.overflow.proofs.overflows.+over_element_over_fields_over_type.Goals as goal
 
@@ -15,27 +13,26 @@ over_element-part_path-below-requires t c =
     omega (arith, c.requires.element_type_at.1, c.requires.element_type_at.2)
 
 pub over_element-over_type-requires : goal.over_element-over_type-requires
-over_element-over_type-requires t c =
+over_element-over_type-requires t c = (
+  omega (arith, c.decreases),
+  (
+    c.requires.skips,
     (
-      omega (arith, c.decreases),
+      c.requires.ends,
       (
-        c.requires.skips,
         (
-          c.requires.ends,
-          (
-            (
-              c.requires.top_at.0,
-              step_top c.args.path 0 c.requires.element_type_at.2 c.part_path-below.ensures c.requires.top_at.1,
-            ),
-            (
-              element-type c.requires.element_type_at.0 c.element_label.ensures.result_value c.in-Is.is,
-              step_deep c.args.path 0 c.requires.element_type_at.2 c.part_path-below.ensures _ c.requires.element_type_at.1,
-              step_room c.args.path 0 c.requires.element_type_at.2 c.part_path-below.ensures,
-            ),
-          ),
+          c.requires.top_at.0,
+          step_top c.args.path 0 c.requires.element_type_at.2 c.part_path-below.ensures c.requires.top_at.1,
+        ),
+        (
+          element-type c.requires.element_type_at.0 c.element_label.ensures.result_value c.in-Is.is,
+          step_deep c.args.path 0 c.requires.element_type_at.2 c.part_path-below.ensures _ c.requires.element_type_at.1,
+          step_room c.args.path 0 c.requires.element_type_at.2 c.part_path-below.ensures,
         ),
       ),
-    )
+    ),
+  ),
+)
 
 pub over_element-returns-in-Is : goal.over_element-returns-in-Is
 over_element-returns-in-Is t c =

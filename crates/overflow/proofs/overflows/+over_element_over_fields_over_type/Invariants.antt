@@ -1,11 +1,5 @@
-use Rattle.overflow.proofs.Paths.{Fieldings, step_top, step_leaves, step_room, step_deep, time_leaves, never_leaves, struct-leaves, list-leaves}
-use Rattle.overflow.proofs.Paths.{array-leaves, element-leaves}
-use Rattle.overflow.proofs.Paths.{fielding_none, fielding_all, fielding_labelled, fielding-type, fielding-found, fielding-more}
-use Rattle.overflow.proofs.Elements.{list_element_lem, array_element_lem, element-type, element-labelled}
-use Rattle.layout.proofs.View.{deep, struct_at, never_headless}
-use borrow.Author.Rules.{rules}
-use Prim.Native.Nat.{ℕ, ◌<◌, ◌+◌, ◌-◌, ◌*◌}
-use native.Mathlib.Omega.{arith}
+use Rattle.overflow.proofs.Paths.{Fieldings}
+use Prim.Native.Nat.{◌+◌, ◌-◌, ◌*◌}
 use Rattle.overflow.proofs.overflows.+over_element_over_fields_over_type.Given as goal
 
 abbrev pub decreases-over_element : goal.decreases-over_element

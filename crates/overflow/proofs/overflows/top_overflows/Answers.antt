@@ -5,7 +5,6 @@ use Rattle.plan.proofs.Skipping.{skips-none}
 use lib.ListN.{length-replicate}
 use native.Mathlib.Omega.{arith}
 use Prim.Native.Nat.{ℕ}
-use borrow.Author.Rules.{rules}
 use Rattle.overflow.proofs.overflows.top_overflows.Goals as goal
 
 pub over_type-requires : goal.over_type-requires

@@ -1,17 +1,16 @@
 -- `overflow::scan::some_at`, `some_part`, `some_listed` and `some_element` meet their contracts: they call each other
 -- with the path getting shorter; the loop keeps `Scanning`. Assumes nothing.
-use Rattle.overflow.proofs.Scanning.{Scanning, path-end, path_cons, at-end, same-node, leaf_step, struct_step, list_step, array_step, list-elements}
+use Rattle.overflow.proofs.Scanning.{path-end, path_cons, at-end, same-node, leaf_step, struct_step, list_step, array_step, list-elements}
 use Rattle.overflow.proofs.Scanning.{list_any, scanning_none, scanning_all, scanning_raw, scanning-found, scanning-stuck, scanning-more}
 use Rattle.overflow.proofs.Raw.{leaf-value, struct-value, a_list_lem, array-value}
 use Rattle.nodes.proofs.Node.{raw-present, raw_unread, list-is}
 use Rattle.values.proofs.Inside.{null-at, never_uncounted}
 use Rattle.layout.proofs.View.{never_headless, list-labelled, array-labelled}
 use borrow.Author.Rules.{rules}
-use Prim.Native.Nat.{ℕ, ◌<◌, ◌+◌, ◌-◌, ◌*◌}
+use Prim.Native.Nat.{◌<◌}
 use native.Mathlib.Omega.{arith}
 use lib.ListN.{length}
 use mathlib.Core.Path.{◌≡◌, sym}
-use Rattle.overflow.specs.code.Some.{some_found}
 use Rattle.overflow.proofs.scan.+some_at_some_element_some_listed_some_part.Goals as goal
 
 pub some_at-present_sought-requires : goal.some_at-present_sought-requires
@@ -19,21 +18,20 @@ some_at-present_sought-requires t c =
     record { present_at = (raw-present c.requires.raw_at c.read_presence.ensures c.in-Present.is).inner; small_sought = c.requires.small_search.2 }
 
 pub some_at-some_part-requires : goal.some_at-some_part-requires
-some_at-some_part-requires t c =
+some_at-some_part-requires t c = (
+  omega (arith, c.decreases),
+  (
+    c.requires.ends,
     (
-      omega (arith, c.decreases),
+      (raw-present c.requires.raw_at c.read_presence.ensures c.in-Present.is).inner,
       (
-        c.requires.ends,
-        (
-          (raw-present c.requires.raw_at c.read_presence.ensures c.in-Present.is).inner,
-          (
-            c.requires.small_search,
-            omega
-                (arith, c.requires.small_search.0, c.if-search.false),
-          ),
-        ),
+        c.requires.small_search,
+        omega
+            (arith, c.requires.small_search.0, c.if-search.false),
       ),
-    )
+    ),
+  ),
+)
 
 pub some_at-returns-in-Null : goal.some_at-returns-in-Null
 some_at-returns-in-Null t c =
@@ -123,36 +121,34 @@ some_part-some_at-requires t c =
     )
 
 pub some_part-some_listed-requires : goal.some_part-some_listed-requires
-some_part-some_listed-requires t c =
+some_part-some_listed-requires t c = (
+  omega (arith, c.decreases, c.requires.small_search.1),
+  (
+    c.requires.ends,
     (
-      omega (arith, c.decreases, c.requires.small_search.1),
-      (
-        c.requires.ends,
-        (
-          (list-is c.requires.present_at c.head.ensures.result_value c.element_label.ensures.result_value
-              c.in-Is.is c.in-List.is).inner,
-          (omega (arith, c.requires.small_search.1), c.requires.small_search.0.1, c.requires.small_search.0.2),
-        ),
-      ),
-    )
+      (list-is c.requires.present_at c.head.ensures.result_value c.element_label.ensures.result_value
+          c.in-Is.is c.in-List.is).inner,
+      (omega (arith, c.requires.small_search.1), c.requires.small_search.0.1, c.requires.small_search.0.2),
+    ),
+  ),
+)
 
 pub some_part-some_element-requires : goal.some_part-some_element-requires
-some_part-some_element-requires t c =
+some_part-some_element-requires t c = (
+  omega (arith, c.decreases, c.requires.small_search.1),
+  (
+    c.requires.ends,
     (
-      omega (arith, c.decreases, c.requires.small_search.1),
+      (array-value c.requires.present_at c.head.ensures.result_value
+          c.element_label-in-Array.ensures.result_value c.in-Is-element_label.is c.in-Array.is).elements,
       (
-        c.requires.ends,
-        (
-          (array-value c.requires.present_at c.head.ensures.result_value
-              c.element_label-in-Array.ensures.result_value c.in-Is-element_label.is c.in-Array.is).elements,
-          (
-            omega (arith, c.requires.small_search.1),
-            c.requires.small_search.0.1,
-            c.requires.small_search.0.2,
-          ),
-        ),
+        omega (arith, c.requires.small_search.1),
+        c.requires.small_search.0.1,
+        c.requires.small_search.0.2,
       ),
-    )
+    ),
+  ),
+)
 
 pub some_part-returns-in-Leaf : goal.some_part-returns-in-Leaf
 some_part-returns-in-Leaf t c =

@@ -1,14 +1,5 @@
-use Rattle.overflow.proofs.Scanning.{Scanning, path-end, path_cons, at-end, same-node, leaf_step, struct_step, list_step, array_step, list-elements}
-use Rattle.overflow.proofs.Scanning.{list_any, scanning_none, scanning_all, scanning_raw, scanning-found, scanning-stuck, scanning-more}
-use Rattle.overflow.proofs.Raw.{leaf-value, struct-value, a_list_lem, array-value}
-use Rattle.nodes.proofs.Node.{raw-present, raw_unread, list-is}
-use Rattle.values.proofs.Inside.{null-at, never_uncounted}
-use Rattle.layout.proofs.View.{never_headless, list-labelled, array-labelled}
-use borrow.Author.Rules.{rules}
-use Prim.Native.Nat.{ℕ, ◌<◌, ◌+◌, ◌-◌, ◌*◌}
-use native.Mathlib.Omega.{arith}
-use lib.ListN.{length}
-use mathlib.Core.Path.{◌≡◌, sym}
+use Rattle.overflow.proofs.Scanning.{Scanning}
+use Prim.Native.Nat.{◌+◌, ◌-◌, ◌*◌}
 use Rattle.overflow.specs.code.Some.{some_found}
 use Rattle.overflow.proofs.scan.+some_at_some_element_some_listed_some_part.Given as goal
 

@@ -4,14 +4,16 @@ use Rattle.overflow.proofs.Raw.{leaf_timeless, time-within, leaf-time, struct-va
 use Rattle.layout.proofs.View.{never_headless}
 use native.Mathlib.Omega.{arith}
 use mathlib.Core.Path.{sym}
-use borrow.Author.Rules.{rules}
 use Rattle.overflow.proofs.scan.is_beyond.Goals as goal
 
 pub number_at-requires : goal.number_at-requires
 number_at-requires c =
-    record { w_in_bounds = time-within c.requires.present_at
+    record {
+      w_in_bounds = time-within c.requires.present_at
           c.head.ensures.result_value c.in-Leaf.is
-          c.time_of.ensures c.in-In.is; w_bound = omega arith }
+          c.time_of.ensures c.in-In.is;
+      w_bound = omega arith;
+    }
 
 pub returns-in-In : goal.returns-in-In
 returns-in-In c =

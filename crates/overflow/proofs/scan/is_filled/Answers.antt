@@ -2,7 +2,6 @@
 use Rattle.overflow.proofs.Raw.{leaf-value, struct-value, list-filled, list_uncounted, an_array_lem, struct_unfilled, array-filled}
 use Rattle.layout.proofs.View.{never_headless}
 use mathlib.Core.Path.{sym}
-use borrow.Author.Rules.{rules}
 use Rattle.overflow.proofs.scan.is_filled.Goals as goal
 
 pub returns-in-Leaf : goal.returns-in-Leaf

@@ -2,7 +2,6 @@
 use Rattle.overflow.proofs.Raw.{leaf-value, struct-value, a_list_lem, an_array_lem, struct_is, list-not, array-not}
 use Rattle.layout.proofs.View.{never_headless}
 use mathlib.Core.Path.{sym}
-use borrow.Author.Rules.{rules}
 use Rattle.overflow.proofs.scan.is_struct.Goals as goal
 
 pub returns-in-Leaf : goal.returns-in-Leaf

@@ -1,6 +1,5 @@
 -- `overflow::scan::null_sought` meets its contract: by what is left of the path. Assumes nothing.
 use Rattle.overflow.proofs.Scanning.{null_further, null-found, null_unwanted}
-use borrow.Author.Rules.{rules}
 use Rattle.overflow.proofs.scan.null_sought.Goals as goal
 
 pub returns-then-from-len : goal.returns-then-from-len

@@ -1,6 +1,5 @@
 -- `overflow::scan::present_meets` meets its contract: each want has its function. Assumes nothing.
 use Rattle.overflow.specs.code.Want.{meets}
-use borrow.Author.Rules.{rules}
 use Rattle.overflow.proofs.scan.present_meets.Goals as goal
 
 pub is_beyond-requires : goal.is_beyond-requires

@@ -1,6 +1,5 @@
 -- `overflow::scan::present_sought` meets its contract: nothing that is present is null. Assumes nothing.
 use Rattle.overflow.proofs.Raw.{content-present}
-use borrow.Author.Rules.{rules}
 use Rattle.overflow.proofs.scan.present_sought.Goals as goal
 
 pub present_meets-requires : goal.present_meets-requires

@@ -1,9 +1,7 @@
 -- `overflow::seek::seek` meets its contract: the loop keeps `Going`. Assumes nothing.
-use Rattle.overflow.proofs.Seeking.{Going, seeking_located, seeking-no, seeking-yes, input-starts, seeking-input, outward-starts, seeking-outward}
+use Rattle.overflow.proofs.Seeking.{seeking_located, seeking-no, seeking-yes, input-starts, seeking-input, outward-starts, seeking-outward}
 use Rattle.overflow.proofs.Seeking.{going_start}
 use native.Mathlib.Omega.{arith}
-use borrow.Author.Rules.{rules}
-use Rattle.walk.specs.code.Walks.{rank}
 use Rattle.overflow.proofs.seek.seek.Goals as goal
 
 pub loop-next-init : goal.loop-next-init
@@ -16,13 +14,18 @@ locate-x-requires c =
 
 pub at_stop-requires : goal.at_stop-requires
 at_stop-requires c =
-    let L = seeking_located (c.loop-next.invariant c.requires.seeks.0 c.requires.seeks.1) c.locate-x.ensures in record { skips = c.requires.skips; ends = c.requires.ends; record_at = (
-            c.requires.seeks.0,
-            (
-              L.state,
-              L.standing,
-            ),
-          ); small_want = L.small }
+    let L = seeking_located (c.loop-next.invariant c.requires.seeks.0 c.requires.seeks.1) c.locate-x.ensures in record {
+      skips = c.requires.skips;
+      ends = c.requires.ends;
+      record_at = (
+        c.requires.seeks.0,
+        (
+          L.state,
+          L.standing,
+        ),
+      );
+      small_want = L.small;
+    }
 
 pub returns-in-No : goal.returns-in-No
 returns-in-No c =

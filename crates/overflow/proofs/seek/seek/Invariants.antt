@@ -1,7 +1,4 @@
-use Rattle.overflow.proofs.Seeking.{Going, seeking_located, seeking-no, seeking-yes, input-starts, seeking-input, outward-starts, seeking-outward}
-use Rattle.overflow.proofs.Seeking.{going_start}
-use native.Mathlib.Omega.{arith}
-use borrow.Author.Rules.{rules}
+use Rattle.overflow.proofs.Seeking.{Going}
 use Rattle.walk.specs.code.Walks.{rank}
 use Rattle.overflow.proofs.seek.seek.Given as goal
 

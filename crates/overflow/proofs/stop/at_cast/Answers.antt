@@ -1,6 +1,5 @@
 -- `overflow::stop::at_cast` meets its contract: by what is left of the path. Assumes nothing.
 use Rattle.overflow.proofs.Stops.{cast-more, cast-none}
-use borrow.Author.Rules.{rules}
 use Rattle.overflow.proofs.stop.at_cast.Goals as goal
 
 pub returns-then-w : goal.returns-then-w

@@ -2,7 +2,6 @@
 use Rattle.overflow.proofs.Stops.{constant-found, constant-not, path_room}
 use Rattle.overflow.proofs.Scanning.{sought-present}
 use mathlib.Core.Path.{◌∙◌}
-use borrow.Author.Rules.{rules}
 use Rattle.overflow.proofs.stop.at_constant.Goals as goal
 
 pub in_constant-requires : goal.in_constant-requires

@@ -2,7 +2,6 @@
 use Rattle.overflow.proofs.Stops.{position_stop, rename_stop, struct_stop_lem, list_stop_lem, array_stop, constant_stop_lem, cast_stop_lem, constant-raw, cast-type}
 use Rattle.overflow.proofs.Stops.{path_room}
 use Rattle.walk.proofs.Heads.{never_refused}
-use borrow.Author.Rules.{rules}
 use Rattle.overflow.proofs.stop.at_stop.Goals as goal
 
 pub at_position-requires : goal.at_position-requires

@@ -1,6 +1,5 @@
 -- `overflow::stop::at_struct` meets its contract: by what is left of the path. Assumes nothing.
 use Rattle.overflow.proofs.Stops.{struct-more, struct-none}
-use borrow.Author.Rules.{rules}
 use Rattle.overflow.proofs.stop.at_struct.Goals as goal
 
 pub returns-then-w : goal.returns-then-w

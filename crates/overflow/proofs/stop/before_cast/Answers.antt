@@ -1,7 +1,6 @@
 -- `overflow::stop::before_cast` meets its contract: by what the type begins with. Assumes nothing.
 use Rattle.overflow.proofs.Asking.{cast_leaf_lem, cast-struct, cast-list, cast-array}
 use Rattle.layout.proofs.View.{never_headless}
-use borrow.Author.Rules.{rules}
 use Rattle.overflow.proofs.stop.before_cast.Goals as goal
 
 pub returns-in-Leaf : goal.returns-in-Leaf

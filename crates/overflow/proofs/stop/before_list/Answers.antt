@@ -1,6 +1,5 @@
 -- `overflow::stop::before_list` meets its contract: each want is a case of `listStop`. Assumes nothing.
 use Rattle.overflow.specs.code.Seek.{list_stop}
-use borrow.Author.Rules.{rules}
 use Rattle.overflow.proofs.stop.before_list.Goals as goal
 
 pub returns-in-Parts : goal.returns-in-Parts

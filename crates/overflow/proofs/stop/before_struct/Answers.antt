@@ -1,6 +1,5 @@
 -- `overflow::stop::before_struct` meets its contract: each want is a case of `structStop`. Assumes nothing.
 use Rattle.overflow.specs.code.Seek.{struct_stop}
-use borrow.Author.Rules.{rules}
 use Rattle.overflow.proofs.stop.before_struct.Goals as goal
 
 pub returns-in-Parts : goal.returns-in-Parts

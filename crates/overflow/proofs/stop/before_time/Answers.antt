@@ -1,6 +1,5 @@
 -- `overflow::stop::before_time` meets its contract: each want is a case of `timeStop`. Assumes nothing.
 use Rattle.overflow.specs.code.Seek.{time_stop}
-use borrow.Author.Rules.{rules}
 use Rattle.overflow.proofs.stop.before_time.Goals as goal
 
 pub bounds_before-requires : goal.bounds_before-requires

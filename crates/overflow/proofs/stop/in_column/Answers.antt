@@ -2,7 +2,6 @@
 use Rattle.overflow.proofs.Scanning.{null-none, sought-present, same-node}
 use native.Mathlib.Omega.{arith}
 use mathlib.Core.Path.{◌∙◌}
-use borrow.Author.Rules.{rules}
 use Rattle.overflow.proofs.stop.in_column.Goals as goal
 
 pub some_at-requires : goal.some_at-requires

@@ -3,7 +3,6 @@ use Rattle.ends.proofs.Entries.{ends-none}
 use mathlib.Core.Path.{refl}
 use Rattle.overflow.proofs.Asking.{raw_of}
 use Rattle.overflow.proofs.Scanning.{same-node}
-use borrow.Author.Rules.{rules}
 use Rattle.overflow.proofs.stop.in_constant.Goals as goal
 
 pub in_long_constant-requires : goal.in_long_constant-requires

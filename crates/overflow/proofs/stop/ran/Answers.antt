@@ -1,7 +1,6 @@
 -- `overflow::stop::ran` meets its contract: by the code of the innermost mapping. Assumes nothing.
 use Rattle.overflow.proofs.Asking.{ran-top, ran-fields, ran-element}
 use Rattle.walk.proofs.Moving.{inner-inside}
-use borrow.Author.Rules.{rules}
 use Rattle.overflow.proofs.stop.ran.Goals as goal
 
 pub returns-then-w-eq0 : goal.returns-then-w-eq0

@@ -1,6 +1,5 @@
 -- `overflow::want::before_quotient` meets its contract: each bound is scaled. Assumes nothing.
 use Rattle.overflow.specs.code.Want.{bounds_before}
-use borrow.Author.Rules.{rules}
 use Rattle.overflow.proofs.want.before_quotient.Goals as goal
 
 pub returns : goal.returns

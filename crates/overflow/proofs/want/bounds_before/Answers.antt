@@ -1,6 +1,5 @@
 -- `overflow::want::bounds_before` meets its contract: each pair of units is a case of `unitChange`. Assumes nothing.
 use Rattle.overflow.specs.code.Want.{bounds_before}
-use borrow.Author.Rules.{rules}
 use Rattle.overflow.proofs.want.bounds_before.Goals as goal
 
 pub returns-in-Nanoseconds-to : goal.returns-in-Nanoseconds-to

@@ -1,6 +1,5 @@
 -- `overflow::want::count_beyond` meets its contract: only a date-time has a unit. Assumes nothing.
 use Rattle.overflow.specs.code.Want.{count_beyond}
-use borrow.Author.Rules.{rules}
 use Rattle.overflow.proofs.want.count_beyond.Goals as goal
 
 pub returns-in-In : goal.returns-in-In

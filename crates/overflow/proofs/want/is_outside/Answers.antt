@@ -1,7 +1,6 @@
 -- `overflow::want::is_outside` meets its contract: a count from zero on, or below it. Assumes nothing.
 use Rattle.overflow.proofs.Scaling.{count-up, count_down}
 use native.Mathlib.Omega.{arith}
-use borrow.Author.Rules.{rules}
 use Rattle.overflow.proofs.want.is_outside.Goals as goal
 
 pub returns-then-n-lt-HALF : goal.returns-then-n-lt-HALF

@@ -1,7 +1,6 @@
 -- `overflow::want::scaled` meets its contract: past the largest bound, or within it. Assumes nothing.
 use Rattle.overflow.proofs.Scaling.{scaled-past, scaled_fits, scaled-within}
 use native.Mathlib.Omega.{arith}
-use borrow.Author.Rules.{rules}
 use Rattle.overflow.proofs.want.scaled.Goals as goal
 
 pub returns-then-f-a : goal.returns-then-f-a

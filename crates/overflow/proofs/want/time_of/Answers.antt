@@ -1,4 +1,3 @@
-use borrow.Author.Rules.{rules}
 use Rattle.overflow.proofs.want.time_of.Goals as goal
 
 pub returns-in-Datetime : goal.returns-in-Datetime

@@ -1,6 +1,5 @@
 -- `plan::pass::pass_selector` meets its contract: what the table has, or what is read. Assumes nothing.
 use Rattle.plan.proofs.Skipping.{skips-none, skip-one}
-use borrow.Author.Rules.{rules}
 use Rattle.plan.proofs.pass.pass_selector.Goals as goal
 
 pub returns-then-known-ne0 : goal.returns-then-known-ne0

@@ -1,8 +1,6 @@
 -- `plan::pass::pass_selectors` meets its contract: those before are passed over. Assumes nothing.
-use Prim.Native.Nat.{◌-◌}
 use native.Mathlib.Omega.{arith}
-use Rattle.plan.specs.Read.{selector}
-use Rattle.plan.proofs.Moves.{passing_none, passing_position, passing-more, passing_all, passing-stopped, Passing}
+use Rattle.plan.proofs.Moves.{passing_none, passing_position, passing-more, passing_all, passing-stopped}
 use Rattle.plan.proofs.Skipping.{passing_skip}
 use borrow.Author.Rules.{rules}
 use Rattle.plan.proofs.pass.pass_selectors.Goals as goal

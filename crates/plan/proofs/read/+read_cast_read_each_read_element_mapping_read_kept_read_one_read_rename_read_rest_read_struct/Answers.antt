@@ -1,14 +1,10 @@
 -- The proof of the cycle of calls that reads selectors: each way has its law in `Moves`. The measure is 4 for each
 -- level left. Assumes nothing.
-use Rattle.plan.proofs.Moves.{array-to, array-stopped, list-to, list-stopped, cast_to, cast_untyped, cast-stopped, rename-to, rename-stopped, struct-to, struct_uncounted, struct-stopped, rest-position, rest-constant, rest-cast, rest-rename, rest-struct, rest-element, rest_unknown, selector-deep, selector-to, selector-stopped, selector-position, passing_position, passing_none, passing_all, passing-stopped, passing-more, Passing}
+use Rattle.plan.proofs.Moves.{array-to, array-stopped, list-to, list-stopped, cast_to, cast_untyped, cast-stopped, rename-to, rename-stopped, struct-to, struct_uncounted, struct-stopped, rest-position, rest-constant, rest-cast, rest-rename, rest-struct, rest-element, rest_unknown, selector-deep, selector-to, selector-stopped, selector-position, passing_position, passing_none, passing_all, passing-stopped, passing-more}
 use Rattle.plan.proofs.Skipping.{pass-none, pass-read}
-use Rattle.plan.specs.Read.{selector}
-use Rattle.plan.specs.code.Skips.{Skips, SinceIs}
 use native.Mathlib.Omega.{arith}
-use lib.ListN.{length}
-use mathlib.Core.Path.{◌≡◌, ◌∙◌, refl, sym}
+use mathlib.Core.Path.{◌∙◌, refl, sym}
 use borrow.Author.Rules.{rules}
-use Prim.Native.Nat.{ℕ, ◌<◌, ◌≤◌, ◌+◌, ◌-◌, ◌*◌}
 use Rattle.plan.proofs.read.+read_cast_read_each_read_element_mapping_read_kept_read_one_read_rename_read_rest_read_struct.Goals as goal
 
 pub read_cast-returns-in-To-read_data_type : goal.read_cast-returns-in-To-read_data_type
@@ -33,18 +29,20 @@ read_each-overflow_add-e t c =
 
 pub read_each-keep_passed-since-requires : goal.read_each-keep_passed-since-requires
 read_each-keep_passed-since-requires t c =
-    let (P, S, n, T, l) = c.loop-i.invariant in let h = c.is_position.ensures c.if-is_position.true in record { skips = (T, S, selector-position _ _ _ h); count_bound = omega (
+    let (P, S, n, T, l) = c.loop-i.invariant in let h = c.is_position.ensures c.if-is_position.true in record {
+      skips = (T, S, selector-position _ _ _ h);
+      count_bound = omega (
         arith,
         n,
         c.loop-i-test.true,
         c.ranges.n,
-      ) }
+      );
+    }
 
 pub read_each-loop-i-preserved-then-is_position : goal.read_each-loop-i-preserved-then-is_position
 read_each-loop-i-preserved-then-is_position t c =
     let (P, S, n, T, l) = c.loop-i.invariant in
-    let h = c.is_position.ensures c.if-is_position.true in
-    (
+    let h = c.is_position.ensures c.if-is_position.true in (
       passing_position P c.loop-i-test.true h,
       c.keep_passed-since.ensures.skips_2.1,
       omega (arith, n, c.keep_passed-since.ensures.count_bound_2.0),
@@ -55,17 +53,19 @@ read_each-loop-i-preserved-then-is_position t c =
 
 pub read_each-keep_passed-since-requires-in-To : goal.read_each-keep_passed-since-requires-in-To
 read_each-keep_passed-since-requires-in-To t c =
-    let (P, S, n, T, l) = c.loop-i.invariant in record { skips = (c.read_one.ensures.skips.0, S, sym c.in-To.is ∙ c.read_one.ensures.value); count_bound = omega (
+    let (P, S, n, T, l) = c.loop-i.invariant in record {
+      skips = (c.read_one.ensures.skips.0, S, sym c.in-To.is ∙ c.read_one.ensures.value);
+      count_bound = omega (
         arith,
         n,
         c.loop-i-test.true,
         c.ranges.n,
-      ) }
+      );
+    }
 
 pub read_each-loop-i-preserved : goal.read_each-loop-i-preserved
 read_each-loop-i-preserved t c =
-    let (P, S, n, T, l) = c.loop-i.invariant in
-    (
+    let (P, S, n, T, l) = c.loop-i.invariant in (
       passing-more _ _ _ _ P c.loop-i-test.true c.read_one.ensures.value c.in-To.is,
       c.keep_passed-since-in-To.ensures.skips_2.1,
       omega (arith, n, c.keep_passed-since-in-To.ensures.count_bound_2.0),

@@ -1,12 +1,9 @@
-use Rattle.plan.proofs.Moves.{array-to, array-stopped, list-to, list-stopped, cast_to, cast_untyped, cast-stopped, rename-to, rename-stopped, struct-to, struct_uncounted, struct-stopped, rest-position, rest-constant, rest-cast, rest-rename, rest-struct, rest-element, rest_unknown, selector-deep, selector-to, selector-stopped, selector-position, passing_position, passing_none, passing_all, passing-stopped, passing-more, Passing}
-use Rattle.plan.proofs.Skipping.{pass-none, pass-read}
+use Rattle.plan.proofs.Moves.{Passing}
 use Rattle.plan.specs.Read.{selector}
 use Rattle.plan.specs.code.Skips.{Skips, SinceIs}
-use native.Mathlib.Omega.{arith}
 use lib.ListN.{length}
-use mathlib.Core.Path.{◌≡◌, ◌∙◌, refl, sym}
-use borrow.Author.Rules.{rules}
-use Prim.Native.Nat.{ℕ, ◌<◌, ◌≤◌, ◌+◌, ◌-◌, ◌*◌}
+use mathlib.Core.Path.{◌≡◌}
+use Prim.Native.Nat.{◌≤◌, ◌+◌, ◌-◌, ◌*◌}
 use Rattle.plan.proofs.read.+read_cast_read_each_read_element_mapping_read_kept_read_one_read_rename_read_rest_read_struct.Given as goal
 
 abbrev pub decreases-read_cast : goal.decreases-read_cast

@@ -1,5 +1,4 @@
 -- `plan::read::is_position` meets its contract: three bytes are left, and the first is the code. Assumes nothing.
-use borrow.Author.Rules.{rules}
 use Rattle.plan.proofs.Moves.{position_untold, position-told}
 use Rattle.plan.proofs.read.is_position.Goals as goal
 

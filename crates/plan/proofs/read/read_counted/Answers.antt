@@ -1,6 +1,5 @@
 use Rattle.plan.proofs.Skipping.{skips-none}
 use Rattle.plan.proofs.Moves.{plan_uncounted, plan_broken, plan-longer, plan_whole}
-use borrow.Author.Rules.{rules}
 use Rattle.plan.proofs.read.read_counted.Goals as goal
 
 pub read_selectors-requires : goal.read_selectors-requires

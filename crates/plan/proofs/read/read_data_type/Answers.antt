@@ -1,5 +1,4 @@
 use Rattle.plan.proofs.Moves.{type-to}
-use borrow.Author.Rules.{rules}
 use Rattle.plan.proofs.read.read_data_type.Goals as goal
 
 pub returns : goal.returns

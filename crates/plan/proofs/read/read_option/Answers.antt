@@ -1,5 +1,4 @@
 use Rattle.plan.proofs.Moves.{option-known, option_unknown, option-stopped}
-use borrow.Author.Rules.{rules}
 use Rattle.plan.proofs.read.read_option.Goals as goal
 
 pub returns-in-Known : goal.returns-in-Known

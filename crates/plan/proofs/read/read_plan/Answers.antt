@@ -2,7 +2,6 @@ use Rattle.plan.proofs.Moves.{plan_big, plan-short, plan_marked, plan_unmarked}
 use native.Mathlib.Omega.{arith}
 use lib.Seq.{length-take-le}
 use mathlib.Core.Path.{sym}
-use borrow.Author.Rules.{rules}
 use Rattle.plan.proofs.read.read_plan.Goals as goal
 
 pub returns-then-s-gt-LONGEST_PLAN : goal.returns-then-s-gt-LONGEST_PLAN

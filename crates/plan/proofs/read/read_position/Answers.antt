@@ -1,5 +1,4 @@
 use Rattle.plan.proofs.Moves.{position-to, position-stopped}
-use borrow.Author.Rules.{rules}
 use Rattle.plan.proofs.read.read_position.Goals as goal
 
 pub returns-in-Is : goal.returns-in-Is

@@ -1,6 +1,5 @@
 -- `plan::read::read_selector` meets its contract: nothing is known. Assumes nothing.
 use Rattle.plan.proofs.Skipping.{skips-none}
-use borrow.Author.Rules.{rules}
 use Rattle.plan.proofs.read.read_selector.Goals as goal
 
 pub read_one-requires : goal.read_one-requires

@@ -1,5 +1,4 @@
 use Rattle.plan.proofs.Moves.{text-to, text-stopped}
-use borrow.Author.Rules.{rules}
 use Rattle.plan.proofs.read.read_text.Goals as goal
 
 pub returns-in-Is : goal.returns-in-Is

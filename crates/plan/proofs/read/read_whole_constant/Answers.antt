@@ -1,6 +1,5 @@
 -- `plan::read::read_whole_constant` meets its contract: its name, its type and a value of that. Assumes nothing.
 use Rattle.plan.proofs.Moves.{type-stands, constant-to, constant_untyped, constant-stopped}
-use borrow.Author.Rules.{rules}
 use Rattle.plan.proofs.read.read_whole_constant.Goals as goal
 
 pub read_constant_value-requires : goal.read_constant_value-requires

@@ -1,5 +1,4 @@
 -- `plan::read::value_end` meets its contract: a case for each answer. Assumes nothing.
-use borrow.Author.Rules.{rules}
 use Rattle.plan.proofs.read.value_end.Goals as goal
 
 pub returns-in-To : goal.returns-in-To

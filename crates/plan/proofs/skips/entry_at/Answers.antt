@@ -2,7 +2,6 @@ use Prim.Native.Nat.{◌+◌, ◌*◌}
 use native.Mathlib.Omega.{arith}
 use mathlib.Core.Path.{refl}
 use Rattle.plan.proofs.Skipping.{skip-none, skip-found}
-use borrow.Author.Rules.{rules}
 use Rattle.plan.proofs.skips.entry_at.Goals as goal
 
 pub returns-then-i-eq0 : goal.returns-then-i-eq0

@@ -1,6 +1,5 @@
 -- `plan::skips::is_long` meets its contract. Assumes nothing.
 use Rattle.layout.proofs.Ways.{clash}
-use borrow.Author.Rules.{rules}
 use Rattle.plan.proofs.skips.is_long.Goals as goal
 
 pub returns-then-to-lt128 : goal.returns-then-to-lt128

@@ -1,4 +1,3 @@
-use borrow.Author.Rules.{rules}
 use Rattle.plan.proofs.skips.is_nested.Given as goal
 
 abbrev pub invariant-loop-left : goal.invariant-loop-left

@@ -4,7 +4,6 @@ use Prim.Native.Nat.{◌*◌, ◌/◌}
 use mathlib.Core.Path.{refl}
 use lib.ListN.{length-set}
 use Rattle.plan.proofs.Skipping.{told, constant-kept, length_two}
-use borrow.Author.Rules.{rules}
 use mathlib.Core.Path.{ap}
 use mathlib.Core.Bool.{not}
 use Rattle.plan.proofs.skips.keep_end.Goals as goal

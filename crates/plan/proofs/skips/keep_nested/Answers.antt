@@ -1,5 +1,4 @@
 -- `plan::skips::keep_nested` meets its contract: one entry more that is true. Assumes nothing.
-use borrow.Author.Rules.{rules}
 use Rattle.plan.proofs.skips.keep_nested.Goals as goal
 
 pub returns-then-is_nested : goal.returns-then-is_nested

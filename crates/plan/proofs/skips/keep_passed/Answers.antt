@@ -2,7 +2,6 @@
 use native.Mathlib.Omega.{arith}
 use mathlib.Core.Path.{refl}
 use Rattle.plan.proofs.Skipping.{pass-none, pass-one, pass-more}
-use borrow.Author.Rules.{rules}
 use Rattle.plan.proofs.skips.keep_passed.Goals as goal
 
 pub returns-then-is_long : goal.returns-then-is_long

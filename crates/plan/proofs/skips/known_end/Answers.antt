@@ -3,7 +3,6 @@ use native.Mathlib.Omega.{arith}
 use Prim.Native.Nat.{◌+◌, ◌*◌, ◌/◌}
 use mathlib.Core.Path.{refl}
 use Rattle.plan.proofs.Skipping.{constant-found}
-use borrow.Author.Rules.{rules}
 use Rattle.plan.proofs.skips.known_end.Goals as goal
 
 pub returns-then-at-ge-LONGEST_PLAN : goal.returns-then-at-ge-LONGEST_PLAN

@@ -1,6 +1,4 @@
-use Prim.Native.Nat.{◌<◌}
 use Rattle.plan.proofs.Skipping.{skip-none}
-use borrow.Author.Rules.{rules}
 use Rattle.plan.proofs.skips.known_skip.Goals as goal
 
 pub returns-then-at-ge-LONGEST_PLAN : goal.returns-then-at-ge-LONGEST_PLAN

@@ -1,6 +1,4 @@
 use Prim.Native.Nat.{◌<◌}
-use Rattle.plan.proofs.Skipping.{skip-none}
-use borrow.Author.Rules.{rules}
 use Rattle.plan.proofs.skips.known_skip.Given as goal
 
 abbrev pub invariant-loop-left : goal.invariant-loop-left

@@ -1,6 +1,5 @@
 -- `plan::skips::number_at` meets its contract. Assumes nothing.
 use native.Mathlib.Omega.{arith}
-use borrow.Author.Rules.{rules}
 use Rattle.plan.proofs.skips.number_at.Goals as goal
 
 pub returns-then-k-skips : goal.returns-then-k-skips

@@ -3,7 +3,6 @@ use mathlib.Core.Path.{refl}
 use lib.ListN.{set, length-set}
 use native.Mathlib.Omega.{arith}
 use Rattle.plan.proofs.Skipping.{skips-put, length-written}
-use borrow.Author.Rules.{rules}
 use Rattle.plan.proofs.skips.put_entry.Goals as goal
 
 pub bounds-skips-k-2 : goal.bounds-skips-k-2

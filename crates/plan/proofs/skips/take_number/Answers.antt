@@ -2,7 +2,6 @@
 use native.Mathlib.Omega.{arith}
 use lib.ListN.{length-set}
 use Rattle.plan.proofs.Skipping.{skips-low, skips_high}
-use borrow.Author.Rules.{rules}
 use Rattle.plan.proofs.skips.take_number.Goals as goal
 
 pub returns-then-nested : goal.returns-then-nested

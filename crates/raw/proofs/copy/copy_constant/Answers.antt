@@ -3,7 +3,6 @@ use native.Mathlib.Omega.{arith}
 use Rattle.raw.proofs.Leaves.{raw-ends, raw-stored, raw-refused}
 use Rattle.values.proofs.Copying.{copy_stored}
 use Rattle.layout.specs.Tree.{dtype_of}
-use borrow.Author.Rules.{rules}
 use Rattle.raw.proofs.copy.copy_constant.Goals as goal
 
 pub skip_type-requires : goal.skip_type-requires

@@ -1,6 +1,5 @@
 use native.Mathlib.Omega.{arith}
 use Rattle.raw.proofs.Leaves.{raw-ends, raw-stored, raw-refused}
-use borrow.Author.Rules.{rules}
 use Rattle.raw.proofs.copy.copy_raw.Goals as goal
 
 pub overflow_sub-result : goal.overflow_sub-result

@@ -1,7 +1,6 @@
 use mathlib.Core.Path.{refl}
 use Rattle.plan.proofs.Results.{true≠false}
 use Rattle.values.proofs.Inside.{null-at}
-use borrow.Author.Rules.{rules}
 use Rattle.raw.proofs.copy.is_null.Goals as goal
 
 pub returns-in-Null : goal.returns-in-Null

@@ -1,6 +1,5 @@
 use Rattle.raw.proofs.Storing.{lead-counted, lead_plain}
 use Rattle.store.specs.code.Overlay.{overlay}
-use borrow.Author.Rules.{rules}
 use Rattle.raw.proofs.copy.put_lead.Goals as goal
 
 pub returns-then-counted : goal.returns-then-counted

@@ -1,7 +1,6 @@
 use Rattle.store.specs.code.Overlay.{overlay}
 use Rattle.values.specs.Encode.{encode_value}
 use mathlib.Core.Path.{refl}
-use borrow.Author.Rules.{rules}
 use Rattle.raw.proofs.copy.put_null.Goals as goal
 
 pub returns : goal.returns

@@ -2,7 +2,6 @@ use Rattle.layout.proofs.View.{never_headless}
 use Rattle.values.proofs.Inside.{null-at}
 use Rattle.nodes.proofs.Node.{raw-present, raw_unread}
 use Rattle.raw.proofs.Leaves.{leaf_in, leaf_as, null-other, struct-other, list-other, array-other}
-use borrow.Author.Rules.{rules}
 use Rattle.raw.proofs.leaf.leaf_at.Goals as goal
 
 pub present_leaf-requires : goal.present_leaf-requires

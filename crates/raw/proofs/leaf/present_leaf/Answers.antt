@@ -2,7 +2,6 @@ use mathlib.Core.Path.{sym, ◌∙◌}
 use native.Mathlib.Omega.{arith}
 use Rattle.raw.proofs.Leaves.{leaf-nothing, leaf-text, leaf-flag, flag-inside, number-inside, leaf-number, decimal-inside, leaf-decimal}
 use Rattle.values.proofs.Leaves.{number_small}
-use borrow.Author.Rules.{rules}
 use Rattle.raw.proofs.leaf.present_leaf.Goals as goal
 
 pub bounds-rec-at : goal.bounds-rec-at

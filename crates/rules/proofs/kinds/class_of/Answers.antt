@@ -1,5 +1,4 @@
 -- `rules::kinds::class_of` meets its contract: each arm is a case of `class_of`. Assumes nothing.
-use borrow.Author.Rules.{rules}
 use Rattle.rules.proofs.kinds.class_of.Goals as goal
 
 pub returns-in-Integer : goal.returns-in-Integer

@@ -3,7 +3,6 @@ use native.Mathlib.Omega.{arith}
 use Rattle.rules.specs.Promotion.{promotes}
 use Rattle.rules.proofs.Interval.{holds_on, fails_on, fails_off}
 use Rattle.layout.proofs.Keys.{none}
-use borrow.Author.Rules.{rules}
 use Rattle.rules.proofs.lossless.holds_signed.Goals as goal
 
 pub returns-in-2-to-5 : goal.returns-in-2-to-5

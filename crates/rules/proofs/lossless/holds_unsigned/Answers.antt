@@ -3,7 +3,6 @@ use native.Mathlib.Omega.{arith}
 use Rattle.rules.specs.Promotion.{promotes}
 use Rattle.rules.proofs.Interval.{holds_on, fails_on, fails_off}
 use Rattle.layout.proofs.Keys.{none}
-use borrow.Author.Rules.{rules}
 use Rattle.rules.proofs.lossless.holds_unsigned.Goals as goal
 
 pub returns-in-3-to-9 : goal.returns-in-3-to-9

@@ -7,7 +7,6 @@ use Rattle.rules.specs.declared.outcome.CastOption.{CastOption}
 use Rattle.rules.specs.Policies.{all_on}
 use Rattle.rules.specs.Outcomes.{Verdict}
 use Rattle.rules.specs.Pairs.{pair_rule, has_option, cast_passes}
-use borrow.Author.Rules.{rules}
 use Rattle.rules.proofs.pair.cast_passes.Goals as goal
 
 judged : (i t : LeafType) (o : CastOption) (p : Policy) (v : Verdict) {b : Bool} → b ≡ has_option o v → v ≡ pair_rule p i t → p ≡ all_on → b ≡ cast_passes i t o

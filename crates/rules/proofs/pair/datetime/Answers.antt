@@ -1,5 +1,4 @@
 -- `rules::pair::datetime` meets its contract: each way rewrites by the tests that led there.
-use borrow.Author.Rules.{rules}
 use Rattle.rules.proofs.pair.datetime.Goals as goal
 
 pub returns-then-p : goal.returns-then-p

@@ -1,5 +1,4 @@
 -- `rules::pair::decimal` meets its contract: each arm is told how the parameters compare. Assumes nothing.
-use borrow.Author.Rules.{rules}
 use Rattle.rules.proofs.pair.decimal.Goals as goal
 
 pub returns-in-Identical : goal.returns-in-Identical

@@ -1,5 +1,4 @@
 -- `rules::pair::has_option` meets its contract: each arm is told the outcome.
-use borrow.Author.Rules.{rules}
 use Rattle.rules.proofs.pair.has_option.Goals as goal
 
 pub returns-in-Cast : goal.returns-in-Cast

@@ -1,5 +1,4 @@
 -- `rules::pair::integer` meets its contract: each arm rewrites by what it knows.
-use borrow.Author.Rules.{rules}
 use Rattle.rules.proofs.pair.integer.Goals as goal
 
 pub returns-then-flag : goal.returns-then-flag

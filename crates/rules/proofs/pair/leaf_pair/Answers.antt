@@ -2,7 +2,6 @@
 use mathlib.Core.Path.{◌∙◌}
 use native.Mathlib.Omega.{arith}
 use Rattle.rules.proofs.Agree.{looked_up, row_within}
-use borrow.Author.Rules.{rules}
 use Rattle.rules.proofs.pair.leaf_pair.Goals as goal
 
 pub bounds-rules-row : goal.bounds-rules-row

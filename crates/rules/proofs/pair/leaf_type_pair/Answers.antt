@@ -3,7 +3,6 @@ use mathlib.Core.Path.{ap, ◌∙◌}
 use Rattle.rules.specs.declared.params.Params.{Params}
 use Rattle.rules.specs.Chain.{chain}
 use Rattle.rules.proofs.PairRule.{pair_of_leaves}
-use borrow.Author.Rules.{rules}
 use Rattle.rules.proofs.pair.leaf_type_pair.Goals as goal
 
 pub returns : goal.returns

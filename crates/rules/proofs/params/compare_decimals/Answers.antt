@@ -1,6 +1,5 @@
 -- `rules::params::compare_decimals` meets its contract: the tests of `decimalsOf`, each where it decides. Assumes
 -- nothing.
-use native.Mathlib.Omega.{arith}
 use borrow.Author.Tests.{eq-eqb, ne_eqb, lt-ltb, le-ltb}
 use Rattle.rules.specs.Params.{decimals_of}
 use Rattle.rules.proofs.params.compare_decimals.Goals as goal

@@ -1,5 +1,4 @@
 -- `rules::params::compare_params` meets its contract: a law of `Compared` for each way. Assumes nothing.
-use borrow.Author.Rules.{rules}
 use Rattle.rules.proofs.Compared.{no_decimal_incoming, no_decimal_target, two-decimals}
 use mathlib.Core.Path.{ap}
 use mathlib.Core.Bool.{not}

@@ -1,5 +1,4 @@
 -- `rules::params::decimal_of` meets its contract: each arm is a case of `decimalOf`. Assumes nothing.
-use borrow.Author.Rules.{rules}
 use Rattle.rules.proofs.params.decimal_of.Goals as goal
 
 pub returns-in-Decimal : goal.returns-in-Decimal

@@ -1,5 +1,4 @@
 -- `rules::params::is_decimal` meets its contract: the kind's number is compared. Assumes nothing.
-use borrow.Author.Rules.{rules}
 use Rattle.rules.proofs.params.is_decimal.Goals as goal
 
 pub returns : goal.returns

@@ -1,7 +1,6 @@
 -- `rules::zones::compare_zones` meets its contract: each way rewrites by the tests that led there.
 use mathlib.Core.Path.{sym, ◌∙◌}
 use Rattle.rules.proofs.Utc.{zones_identical, zones_utc, zones_left, zones_right}
-use borrow.Author.Rules.{rules}
 use Rattle.rules.proofs.zones.compare_zones.Goals as goal
 
 pub returns-then-same_bytes : goal.returns-then-same_bytes

@@ -1,6 +1,5 @@
 -- `rules::zones::is_utc` meets its contract: the texts in turn.
 use Rattle.rules.proofs.Utc.{utc-absent, utc-text, utc-etc, utc-z}
-use borrow.Author.Rules.{rules}
 use Rattle.rules.proofs.zones.is_utc.Goals as goal
 
 pub returns-then-same_bytes : goal.returns-then-same_bytes

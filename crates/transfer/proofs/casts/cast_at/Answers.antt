@@ -2,7 +2,6 @@ use Rattle.transfer.proofs.Casting.{each-cast}
 use Rattle.transfer.proofs.Chaining.{type_moved}
 use Rattle.walk.proofs.Heads.{is_position_lem}
 use Rattle.values.specs.Value.{vnil}
-use borrow.Author.Rules.{rules}
 use Rattle.transfer.proofs.casts.cast_at.Goals as goal
 
 pub returns-then-k-eq0 : goal.returns-then-k-eq0

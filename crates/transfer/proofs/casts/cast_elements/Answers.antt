@@ -1,13 +1,9 @@
 use Rattle.transfer.proofs.Casting.{element-stands}
-use Rattle.transfer.proofs.Rows.{Going, going_none, going_all, going-value, going_more}
+use Rattle.transfer.proofs.Rows.{going_none, going_all, going-value, going_more}
 use Rattle.transfer.proofs.Reaching.{unknown}
 use Rattle.plan.specs.Run.{cast_leaf}
-use Rattle.nodes.specs.code.Raw.{ElementsAt}
-use lib.ListN.{length}
-use Prim.Native.Nat.{◌-◌}
-use mathlib.Core.Path.{◌≡◌, refl, ◌∙◌}
+use mathlib.Core.Path.{refl, ◌∙◌}
 use native.Mathlib.Omega.{arith}
-use borrow.Author.Rules.{rules}
 use Rattle.transfer.proofs.casts.cast_elements.Goals as goal
 
 pub loop-i-init : goal.loop-i-init
@@ -51,15 +47,14 @@ loop-i-smaller c =
     omega (arith, c.loop-i-test.true)
 
 pub loop-i-preserved : goal.loop-i-preserved
-loop-i-preserved c =
-    (
-      c.put_chain.auto.out ∙ c.loop-i.invariant.0,
-      λ X.
-          let N = element-stands (going-value (cast_leaf c.args.to) X (c.loop-i.invariant.1 X) c.loop-i-test.true) in
-          going_more (cast_leaf c.args.to) X (c.loop-i.invariant.1 X) c.loop-i-test.true (c.skip_value-c.ensures (going-value (cast_leaf c.args.to)
-          X (c.loop-i.invariant.1 X) c.loop-i-test.true))
-          (c.put_chain.ensures _ _ N (c.cast_to-q.ensures _ _ (c.taken_leaf.ensures _ N))) c.in-To.is,
-    )
+loop-i-preserved c = (
+  c.put_chain.auto.out ∙ c.loop-i.invariant.0,
+  λ X.
+      let N = element-stands (going-value (cast_leaf c.args.to) X (c.loop-i.invariant.1 X) c.loop-i-test.true) in
+      going_more (cast_leaf c.args.to) X (c.loop-i.invariant.1 X) c.loop-i-test.true (c.skip_value-c.ensures (going-value (cast_leaf c.args.to)
+      X (c.loop-i.invariant.1 X) c.loop-i-test.true))
+      (c.put_chain.ensures _ _ N (c.cast_to-q.ensures _ _ (c.taken_leaf.ensures _ N))) c.in-To.is,
+)
 
 pub shape_of-out : goal.shape_of-out
 shape_of-out c =

@@ -1,13 +1,9 @@
-use Rattle.transfer.proofs.Casting.{element-stands}
-use Rattle.transfer.proofs.Rows.{Going, going_none, going_all, going-value, going_more}
-use Rattle.transfer.proofs.Reaching.{unknown}
+use Rattle.transfer.proofs.Rows.{Going}
 use Rattle.plan.specs.Run.{cast_leaf}
 use Rattle.nodes.specs.code.Raw.{ElementsAt}
 use lib.ListN.{length}
 use Prim.Native.Nat.{◌-◌}
-use mathlib.Core.Path.{◌≡◌, refl, ◌∙◌}
-use native.Mathlib.Omega.{arith}
-use borrow.Author.Rules.{rules}
+use mathlib.Core.Path.{◌≡◌}
 use Rattle.transfer.proofs.casts.cast_elements.Given as goal
 
 abbrev pub invariant-loop-i : goal.invariant-loop-i

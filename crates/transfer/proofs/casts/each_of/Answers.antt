@@ -1,5 +1,4 @@
 use Rattle.walk.proofs.Heads.{is-cast}
-use borrow.Author.Rules.{rules}
 use Rattle.transfer.proofs.casts.each_of.Goals as goal
 
 pub cast_at-requires : goal.cast_at-requires

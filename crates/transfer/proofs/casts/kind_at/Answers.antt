@@ -1,5 +1,4 @@
 use Rattle.transfer.proofs.Reaching.{cast_leaf_lem}
-use borrow.Author.Rules.{rules}
 use Rattle.transfer.proofs.casts.kind_at.Goals as goal
 
 pub returns-in-Leaf : goal.returns-in-Leaf

@@ -4,8 +4,6 @@ use Rattle.walk.proofs.Heads.{is_position_lem, is-cast, is-rename}
 use Rattle.plan.specs.Run.{value_at}
 use native.Mathlib.Omega.{arith}
 use mathlib.Core.Path.{ap, sym}
-use borrow.Author.Rules.{rules}
-use Prim.Native.Nat.{ℕ, ◌<◌}
 use Rattle.transfer.proofs.chain.+chain_value.Goals as goal
 
 pub chain_value-q-requires : goal.chain_value-q-requires

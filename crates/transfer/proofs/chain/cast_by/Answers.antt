@@ -1,6 +1,5 @@
 use Rattle.raw.proofs.Leaves.{struct_nested, list_nested, array_nested}
 use Rattle.transfer.proofs.Chaining.{by_leaf, by_nested}
-use borrow.Author.Rules.{rules}
 use Rattle.transfer.proofs.chain.cast_by.Goals as goal
 
 pub returns-in-Leaf : goal.returns-in-Leaf

@@ -1,5 +1,4 @@
 use Rattle.transfer.proofs.Chaining.{cast_number, cast_same}
-use borrow.Author.Rules.{rules}
 use Rattle.transfer.proofs.chain.cast_to.Goals as goal
 
 pub returns-in-Number : goal.returns-in-Number

@@ -1,5 +1,4 @@
 use Rattle.transfer.proofs.Chaining.{type_moved, cast_over}
-use borrow.Author.Rules.{rules}
 use Rattle.transfer.proofs.chain.cast_value.Goals as goal
 
 pub returns : goal.returns

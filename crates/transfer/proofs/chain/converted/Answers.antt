@@ -1,5 +1,4 @@
 use Rattle.transfer.proofs.Chaining.{chain-converted}
-use borrow.Author.Rules.{rules}
 use Rattle.transfer.proofs.chain.converted.Goals as goal
 
 pub returns-in-Number : goal.returns-in-Number

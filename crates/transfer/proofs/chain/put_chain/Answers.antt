@@ -4,7 +4,6 @@ use mathlib.Core.Path.{refl, ap}
 use native.Mathlib.Omega.{arith}
 use Rattle.raw.proofs.Storing.{number_short}
 use Rattle.transfer.proofs.Chaining.{chain-number, chain_same}
-use borrow.Author.Rules.{rules}
 use Rattle.transfer.proofs.chain.put_chain.Goals as goal
 
 pub overflow_add-k : goal.overflow_add-k

@@ -1,5 +1,4 @@
 use Rattle.transfer.proofs.Chaining.{taken-null, taken-number, taken-other, chain-is}
-use borrow.Author.Rules.{rules}
 use Rattle.transfer.proofs.chain.taken_leaf.Goals as goal
 
 pub leaf_at-requires : goal.leaf_at-requires

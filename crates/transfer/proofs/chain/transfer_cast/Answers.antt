@@ -1,5 +1,4 @@
 use Rattle.transfer.proofs.Reaching.{reached_end}
-use borrow.Author.Rules.{rules}
 use Rattle.transfer.proofs.chain.transfer_cast.Goals as goal
 
 pub returns : goal.returns

@@ -1,7 +1,6 @@
 use native.Mathlib.Omega.{arith}
 use Rattle.transfer.proofs.Reaching.{reached_as, raw-clean}
 use Rattle.raw.proofs.Constants.{constant-raw}
-use borrow.Author.Rules.{rules}
 use Rattle.transfer.proofs.leaf.put_constant.Goals as goal
 
 pub skip_type-c-requires : goal.skip_type-c-requires
@@ -10,8 +9,11 @@ skip_type-c-requires c =
 
 pub copy_constant-requires : goal.copy_constant-requires
 copy_constant-requires c =
-    record { raw_at = (constant-raw c.requires.constant_raw (c.skip_type-c.ensures c.requires.constant_raw.type)).raw; plan_bound = omega
-          (arith, c.requires.plan_len_bound) }
+    record {
+      raw_at = (constant-raw c.requires.constant_raw (c.skip_type-c.ensures c.requires.constant_raw.type)).raw;
+      plan_bound = omega
+          (arith, c.requires.plan_len_bound);
+    }
 
 pub returns : goal.returns
 returns c =

@@ -1,6 +1,5 @@
 use native.Mathlib.Omega.{arith}
 use Rattle.transfer.proofs.Reaching.{reached_as, reached_null, raw-clean}
-use borrow.Author.Rules.{rules}
 use Rattle.transfer.proofs.leaf.put_node.Goals as goal
 
 pub copy_raw-requires : goal.copy_raw-requires

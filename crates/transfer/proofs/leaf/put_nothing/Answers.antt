@@ -1,6 +1,5 @@
 use mathlib.Core.Bool.{true}
 use mathlib.Core.Path.{refl}
-use borrow.Author.Rules.{rules}
 use Rattle.transfer.proofs.leaf.put_nothing.Goals as goal
 
 pub returns : goal.returns

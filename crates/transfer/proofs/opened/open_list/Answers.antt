@@ -1,5 +1,4 @@
 use Rattle.transfer.proofs.Opening.{opened-counted}
-use borrow.Author.Rules.{rules}
 use Rattle.transfer.proofs.opened.open_list.Goals as goal
 
 pub returns-in-Is : goal.returns-in-Is

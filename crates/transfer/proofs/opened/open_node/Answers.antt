@@ -1,5 +1,4 @@
 use Rattle.transfer.proofs.Opening.{opened_as}
-use borrow.Author.Rules.{rules}
 use Rattle.transfer.proofs.opened.open_node.Goals as goal
 
 pub returns-in-Null : goal.returns-in-Null

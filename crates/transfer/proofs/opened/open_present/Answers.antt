@@ -1,7 +1,6 @@
 use Rattle.transfer.proofs.Opening.{opened_as, opened-struct, opened-array}
 use Rattle.layout.proofs.View.{list-opened}
 use Rattle.nodes.proofs.Node.{list-within}
-use borrow.Author.Rules.{rules}
 use Rattle.transfer.proofs.opened.open_present.Goals as goal
 
 pub returns-in-Struct : goal.returns-in-Struct

@@ -1,7 +1,6 @@
 use Rattle.transfer.proofs.Opening.{opened_as}
 use Rattle.nodes.proofs.Node.{raw-present}
 use Rattle.values.proofs.Inside.{null-at}
-use borrow.Author.Rules.{rules}
 use Rattle.transfer.proofs.opened.open_value.Goals as goal
 
 pub returns-in-Null : goal.returns-in-Null

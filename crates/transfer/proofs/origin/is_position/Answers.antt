@@ -2,7 +2,6 @@ use Rattle.transfer.proofs.Origins.{position-value}
 use Rattle.walk.proofs.Heads.{is_position_lem}
 use Rattle.plan.proofs.Results.{true≠false}
 use mathlib.Core.Path.{refl}
-use borrow.Author.Rules.{rules}
 use Rattle.transfer.proofs.origin.is_position.Goals as goal
 
 pub returns-in-Position : goal.returns-in-Position

@@ -1,6 +1,5 @@
 use Rattle.transfer.proofs.Origins.{taken_position, taken-constant, taken-cast, taken-rename, taken-struct, taken-list, taken-array}
 use Rattle.walk.proofs.Heads.{is_position_lem, is-constant, is-cast, is-rename, is_struct_mapping, is_list_mapping, is-array, never_refused}
-use borrow.Author.Rules.{rules}
 use Rattle.transfer.proofs.origin.taken_at.Goals as goal
 
 pub returns-in-Position : goal.returns-in-Position

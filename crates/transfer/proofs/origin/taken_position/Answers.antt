@@ -1,8 +1,5 @@
-use Rattle.transfer.proofs.Origins.{Inward, inward_start, inward_end, inward_more, inward_falls}
+use Rattle.transfer.proofs.Origins.{inward_start, inward_end, inward_more, inward_falls}
 use Rattle.walk.proofs.View.{same-selector}
-use lib.ListN.{length}
-use Prim.Native.Nat.{◌-◌}
-use borrow.Author.Rules.{rules}
 use Rattle.transfer.proofs.origin.taken_position.Goals as goal
 
 pub loop-k-init : goal.loop-k-init

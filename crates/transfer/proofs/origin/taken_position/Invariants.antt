@@ -1,8 +1,6 @@
-use Rattle.transfer.proofs.Origins.{Inward, inward_start, inward_end, inward_more, inward_falls}
-use Rattle.walk.proofs.View.{same-selector}
+use Rattle.transfer.proofs.Origins.{Inward}
 use lib.ListN.{length}
 use Prim.Native.Nat.{◌-◌}
-use borrow.Author.Rules.{rules}
 use Rattle.transfer.proofs.origin.taken_position.Given as goal
 
 abbrev pub invariant-loop-k : goal.invariant-loop-k

@@ -1,7 +1,7 @@
 -- The functions of `transfer::row` that call each other meet their contracts, by the falling measures below. Assumes
 -- nothing.
 use mathlib.Core.Bool.{true, false}
-use Rattle.transfer.proofs.Rows.{Running, running_none, running-ends, running-all, running-head, running_more, Going, going_none, going_all, going-value}
+use Rattle.transfer.proofs.Rows.{running_none, running-ends, running-all, running-head, running_more, going_none, going_all, going-value}
 use Rattle.transfer.proofs.Rows.{going_more, selector_moved, opened_by, constant_reached, rename_reached, struct-null, struct_row, struct_reached}
 use Rattle.transfer.proofs.Rows.{list-null, list-row, list_reached, array-null, array_row, array_reached, fields_at, rename-takes, input-gives}
 use Rattle.transfer.proofs.Rows.{cast-given, rename-given, struct-given, list-given, array-given, taken-node}
@@ -10,18 +10,12 @@ use Rattle.transfer.proofs.Origins.{position-value}
 use Rattle.transfer.proofs.Casting.{casts-are}
 use Rattle.raw.proofs.Storing.{lead-short}
 use Rattle.direct.proofs.Inputs.{struct-input, list-input, array-input}
-use Rattle.nodes.specs.code.Raw.{ElementsAt}
-use Rattle.index.specs.code.Indexed.{RowIn}
 use Rattle.walk.proofs.Heads.{is_position_lem, is-constant, is-cast, is-rename, is_struct_mapping, is_list_mapping, is-array}
-use Rattle.walk.specs.code.Stands.{SelectorAt, SelectorsAt}
 use Rattle.plan.specs.Run.{eval}
 use Rattle.values.specs.Value.{vcons, vnil}
 use native.Mathlib.Omega.{arith}
-use lib.ListN.{length}
 use lib.Seq.{length-take-le}
-use Prim.Native.Nat.{◌+◌, ◌*◌, ◌-◌, ◌≤◌, ℕ, ◌<◌}
-use mathlib.Core.Path.{◌≡◌, refl, sym, ◌∙◌}
-use borrow.Author.Rules.{rules}
+use mathlib.Core.Path.{refl, sym, ◌∙◌}
 use Rattle.transfer.proofs.row.+array_over_list_over_map_elements_struct_over_transfer_transfer_elements_transfer_fields_transfer_over_transfer_row_transfer_taken.Goals as goal
 
 pub array_over-put_nothing-requires : goal.array_over-put_nothing-requires
@@ -347,23 +341,22 @@ transfer_fields-slice_bounds-transfer_row-end-2 t c =
     sym (length-take-le _ _ c.index_fields-m.ensures.upper_bound_2)
 
 pub transfer_fields-transfer_row-requires : goal.transfer_fields-transfer_row-requires
-transfer_fields-transfer_row-requires t c =
+transfer_fields-transfer_row-requires t c = (
+  omega (arith, c.decreases),
+  (
+    c.requires.ends,
     (
-      omega (arith, c.decreases),
+      c.requires.row_in,
       (
-        c.requires.ends,
+        (c.index_fields-m.ensures.indexed_in, c.requires.stride_nonzero),
         (
-          c.requires.row_in,
-          (
-            (c.index_fields-m.ensures.indexed_in, c.requires.stride_nonzero),
-            (
-              c.requires.selectors_in,
-              c.requires.rec_len_bound,
-            ),
-          ),
+          c.requires.selectors_in,
+          c.requires.rec_len_bound,
         ),
       ),
-    )
+    ),
+  ),
+)
 
 pub transfer_fields-returns : goal.transfer_fields-returns
 transfer_fields-returns t c =
@@ -386,52 +379,49 @@ transfer_over-put_node-requires t c =
     record { ends = c.requires.ends; node_in = c.requires.node_in; rec_len_bound = (c.requires.rec_len_bound.0, c.requires.rec_len_bound.2) }
 
 pub transfer_over-struct_over-requires : goal.transfer_over-struct_over-requires
-transfer_over-struct_over-requires t c =
+transfer_over-struct_over-requires t c = (
+  omega (arith, c.decreases, c.if-place-eq0.false),
+  (
+    c.requires.ends,
     (
-      omega (arith, c.decreases, c.if-place-eq0.false),
+      c.requires.node_in,
       (
-        c.requires.ends,
-        (
-          c.requires.node_in,
-          (
-            (c.requires.selector_at, is_struct_mapping (c.head.ensures c.requires.selector_at) c.in-Struct.is),
-            c.requires.rec_len_bound,
-          ),
-        ),
+        (c.requires.selector_at, is_struct_mapping (c.head.ensures c.requires.selector_at) c.in-Struct.is),
+        c.requires.rec_len_bound,
       ),
-    )
+    ),
+  ),
+)
 
 pub transfer_over-list_over-requires : goal.transfer_over-list_over-requires
-transfer_over-list_over-requires t c =
+transfer_over-list_over-requires t c = (
+  omega (arith, c.decreases, c.if-place-eq0.false),
+  (
+    c.requires.ends,
     (
-      omega (arith, c.decreases, c.if-place-eq0.false),
+      c.requires.node_in,
       (
-        c.requires.ends,
-        (
-          c.requires.node_in,
-          (
-            (c.requires.selector_at, is_list_mapping (c.head.ensures c.requires.selector_at) c.in-List.is),
-            c.requires.rec_len_bound,
-          ),
-        ),
+        (c.requires.selector_at, is_list_mapping (c.head.ensures c.requires.selector_at) c.in-List.is),
+        c.requires.rec_len_bound,
       ),
-    )
+    ),
+  ),
+)
 
 pub transfer_over-array_over-requires : goal.transfer_over-array_over-requires
-transfer_over-array_over-requires t c =
+transfer_over-array_over-requires t c = (
+  omega (arith, c.decreases, c.if-place-eq0.false),
+  (
+    c.requires.ends,
     (
-      omega (arith, c.decreases, c.if-place-eq0.false),
+      c.requires.node_in,
       (
-        c.requires.ends,
-        (
-          c.requires.node_in,
-          (
-            (c.requires.selector_at, is-array (c.head.ensures c.requires.selector_at) c.in-Array.is),
-            c.requires.rec_len_bound,
-          ),
-        ),
+        (c.requires.selector_at, is-array (c.head.ensures c.requires.selector_at) c.in-Array.is),
+        c.requires.rec_len_bound,
       ),
-    )
+    ),
+  ),
+)
 
 pub transfer_over-returns-in-Position : goal.transfer_over-returns-in-Position
 transfer_over-returns-in-Position t c =

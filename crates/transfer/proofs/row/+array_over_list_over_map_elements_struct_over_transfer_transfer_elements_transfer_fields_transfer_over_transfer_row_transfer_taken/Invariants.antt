@@ -1,25 +1,12 @@
-use mathlib.Core.Bool.{true, false}
-use Rattle.transfer.proofs.Rows.{Running, running_none, running-ends, running-all, running-head, running_more, Going, going_none, going_all, going-value}
-use Rattle.transfer.proofs.Rows.{going_more, selector_moved, opened_by, constant_reached, rename_reached, struct-null, struct_row, struct_reached}
-use Rattle.transfer.proofs.Rows.{list-null, list-row, list_reached, array-null, array_row, array_reached, fields_at, rename-takes, input-gives}
-use Rattle.transfer.proofs.Rows.{cast-given, rename-given, struct-given, list-given, array-given, taken-node}
-use Rattle.transfer.proofs.Reaching.{unknown, reached_as, reached_end, reached_to, reached_null}
-use Rattle.transfer.proofs.Origins.{position-value}
-use Rattle.transfer.proofs.Casting.{casts-are}
-use Rattle.raw.proofs.Storing.{lead-short}
-use Rattle.direct.proofs.Inputs.{struct-input, list-input, array-input}
+use Rattle.transfer.proofs.Rows.{Running, Going}
 use Rattle.nodes.specs.code.Raw.{ElementsAt}
 use Rattle.index.specs.code.Indexed.{RowIn}
-use Rattle.walk.proofs.Heads.{is_position_lem, is-constant, is-cast, is-rename, is_struct_mapping, is_list_mapping, is-array}
 use Rattle.walk.specs.code.Stands.{SelectorAt, SelectorsAt}
 use Rattle.plan.specs.Run.{eval}
 use Rattle.values.specs.Value.{vcons, vnil}
-use native.Mathlib.Omega.{arith}
 use lib.ListN.{length}
-use lib.Seq.{length-take-le}
-use Prim.Native.Nat.{◌+◌, ◌*◌, ◌-◌, ◌≤◌, ℕ, ◌<◌}
-use mathlib.Core.Path.{◌≡◌, refl, sym, ◌∙◌}
-use borrow.Author.Rules.{rules}
+use Prim.Native.Nat.{◌+◌, ◌*◌, ◌-◌, ◌≤◌}
+use mathlib.Core.Path.{◌≡◌}
 use Rattle.transfer.proofs.row.+array_over_list_over_map_elements_struct_over_transfer_transfer_elements_transfer_fields_transfer_over_transfer_row_transfer_taken.Given as goal
 
 abbrev pub decreases-array_over : goal.decreases-array_over

@@ -2,7 +2,6 @@
 use native.Mathlib.Omega.{arith}
 use mathlib.Core.Path.{refl}
 use Rattle.index.proofs.Empty.{row-indexed-none}
-use borrow.Author.Rules.{rules}
 use Rattle.transfer.proofs.row.index_fields.Goals as goal
 
 pub returns-then-count-le8 : goal.returns-then-count-le8

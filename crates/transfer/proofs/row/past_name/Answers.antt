@@ -1,5 +1,4 @@
 use Rattle.transfer.proofs.Rows.{past-text}
-use borrow.Author.Rules.{rules}
 use Rattle.transfer.proofs.row.past_name.Goals as goal
 
 pub returns-in-Is : goal.returns-in-Is

@@ -1,5 +1,4 @@
 use Rattle.transfer.proofs.Rows.{value-ended, value_unread}
-use borrow.Author.Rules.{rules}
 use Rattle.transfer.proofs.row.skip_value.Goals as goal
 
 pub returns-in-To : goal.returns-in-To

@@ -1,6 +1,5 @@
 use mathlib.Core.Path.{refl}
 use Rattle.ends.proofs.Entries.{ends-none}
-use borrow.Author.Rules.{rules}
 use Rattle.values.proofs.constant.read_constant_value.Goals as goal
 
 pub read_value-requires : goal.read_value-requires

@@ -1,7 +1,6 @@
 use Rattle.values.proofs.Copying.{copy_within, copy_stored, copy-none}
 use Rattle.layout.specs.Tree.{dtype_of}
 use native.Mathlib.Omega.{arith}
-use borrow.Author.Rules.{rules}
 use Rattle.values.proofs.copy.copy_value.Goals as goal
 
 pub copy-requires : goal.copy-requires
@@ -13,13 +12,19 @@ copy-requires c =
 
 pub returns-in-To : goal.returns-in-To
 returns-in-To c =
-    record { value = λ P. rw (← c.in-To.is)
-          (c.read_value.ensures P); out_after = λ P. copy_stored (dtype_of P.tree) _ _ P.end
+    record {
+      value = λ P. rw (← c.in-To.is)
+          (c.read_value.ensures P);
+      out_after = λ P. copy_stored (dtype_of P.tree) _ _ P.end
           (c.read_value.ensures P)
           (λ i. omega (arith, c.type_inv.rec i)) _ _
-          c.in-To.is c.copy.ensures }
+          c.in-To.is c.copy.ensures;
+    }
 
 pub returns-in-Refused : goal.returns-in-Refused
 returns-in-Refused c =
-    record { value = λ P. rw (← c.in-Refused.is) (c.read_value.ensures P); out_after = λ P. copy-none (dtype_of P.tree) _ _ P.end (c.read_value.ensures P) _ _
-          c.in-Refused.is }
+    record {
+      value = λ P. rw (← c.in-Refused.is) (c.read_value.ensures P);
+      out_after = λ P. copy-none (dtype_of P.tree) _ _ P.end (c.read_value.ensures P) _ _
+          c.in-Refused.is;
+    }

@@ -1,8 +1,7 @@
 -- `values::leaf::number_at` meets its contract: the loop keeps `Adding`. Assumes nothing.
 use Prim.Native.Nat.{◌+◌, ◌-◌}
-use Rattle.values.proofs.Adding.{Adding, adding_none, adding_more, adding_below, adding_all}
+use Rattle.values.proofs.Adding.{adding_none, adding_more, adding_below, adding_all}
 use native.Mathlib.Omega.{arith}
-use borrow.Author.Rules.{rules}
 use Rattle.values.proofs.leaf.number_at.Goals as goal
 
 pub loop-i-init : goal.loop-i-init

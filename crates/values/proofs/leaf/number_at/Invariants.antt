@@ -1,7 +1,4 @@
-use Prim.Native.Nat.{◌+◌, ◌-◌}
-use Rattle.values.proofs.Adding.{Adding, adding_none, adding_more, adding_below, adding_all}
-use native.Mathlib.Omega.{arith}
-use borrow.Author.Rules.{rules}
+use Rattle.values.proofs.Adding.{Adding}
 use Rattle.values.proofs.leaf.number_at.Given as goal
 
 abbrev pub invariant-loop-i : goal.invariant-loop-i

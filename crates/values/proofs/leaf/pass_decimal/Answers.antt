@@ -1,6 +1,5 @@
 use native.Mathlib.Omega.{arith}
 use Rattle.values.proofs.Ways.{decimal-room, decimal_good, decimal_large, decimal-none}
-use borrow.Author.Rules.{rules}
 use Rattle.values.proofs.leaf.pass_decimal.Goals as goal
 
 pub number_at-requires : goal.number_at-requires

@@ -1,14 +1,6 @@
-use Rattle.values.proofs.Walk.{content-leaf, content_no_leaf, content-struct, content-list, content-array, element-null, element-to, element-stopped}
-use Rattle.values.proofs.Walk.{element-refused, repeating_none, repeating-stopped, repeating-more, repeating_all, fielding_none, fielding-first}
-use Rattle.values.proofs.Walk.{fielding-refused, fielding_labelled, fielding-more, fielding_all, list_counted, list_uncounted, value-null, value-present}
-use Rattle.values.proofs.Walk.{value-refused, Fielding, Repeating}
-use Rattle.values.proofs.Numbers.{number_read}
+use Rattle.values.proofs.Walk.{Fielding, Repeating}
 use Rattle.values.specs.code.Marks.{marks_of}
-use Rattle.values.specs.Marked.{value_marked}
-use Rattle.layout.proofs.View.{deep, struct-opened, list-opened, array-opened, never_opened}
-use borrow.Author.Rules.{rules}
-use Prim.Native.Nat.{ℕ, ◌<◌, ◌+◌, ◌-◌, ◌*◌}
-use native.Mathlib.Omega.{arith}
+use Prim.Native.Nat.{◌+◌, ◌-◌, ◌*◌}
 use Rattle.values.proofs.marked.+marked_content_marked_element_marked_elements_marked_fields_marked_list_marked_nested_marked_value.Given as goal
 
 abbrev pub decreases-marked_content : goal.decreases-marked_content

@@ -1,6 +1,5 @@
 -- `values::marked::marked_presence` meets its contract: each way has its law in `Walk`. Assumes nothing.
 use Rattle.values.proofs.Walk.{presence-null, presence-required, presence-present, presence-refused}
-use borrow.Author.Rules.{rules}
 use Rattle.values.proofs.marked.marked_presence.Goals as goal
 
 pub returns-then-required : goal.returns-then-required

@@ -1,7 +1,6 @@
 use Rattle.values.specs.declared.read.ValueRead.{ValueRead}
 use mathlib.Core.Path.{ap}
 use Prim.Native.Nat.{ℕ}
-use borrow.Author.Rules.{rules}
 use Rattle.values.proofs.marked.pass_type.Goals as goal
 
 pub returns : goal.returns

@@ -1,6 +1,5 @@
 -- `values::marked::read_number` meets its contract: a code that is a number's has its bytes after the presence byte.
 -- Assumes nothing.
-use borrow.Author.Rules.{rules}
 use Rattle.values.proofs.Numbers.{number-to, number-none}
 use Rattle.values.proofs.marked.read_number.Goals as goal
 

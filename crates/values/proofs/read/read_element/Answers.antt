@@ -1,6 +1,5 @@
 -- `values::read::read_element` meets its contract: marks do not count. Assumes nothing.
 use Rattle.values.proofs.Unmarked.{bare-element}
-use borrow.Author.Rules.{rules}
 use Rattle.values.proofs.read.read_element.Goals as goal
 
 pub returns : goal.returns

@@ -1,6 +1,5 @@
 -- `values::read::read_elements` meets its contract: marks do not count. Assumes nothing.
 use Rattle.values.proofs.Unmarked.{bare-elements}
-use borrow.Author.Rules.{rules}
 use Rattle.values.proofs.read.read_elements.Goals as goal
 
 pub returns : goal.returns

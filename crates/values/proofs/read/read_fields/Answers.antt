@@ -1,6 +1,5 @@
 -- `values::read::read_fields` meets its contract: marks do not count. Assumes nothing.
 use Rattle.values.proofs.Unmarked.{bare-values}
-use borrow.Author.Rules.{rules}
 use Rattle.values.proofs.read.read_fields.Goals as goal
 
 pub returns : goal.returns

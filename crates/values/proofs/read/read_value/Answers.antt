@@ -1,6 +1,5 @@
 -- `values::read::read_value` meets its contract: marks do not count. Assumes nothing.
 use Rattle.values.proofs.Unmarked.{bare-value}
-use borrow.Author.Rules.{rules}
 use Rattle.values.proofs.read.read_value.Goals as goal
 
 pub returns : goal.returns

@@ -1,7 +1,6 @@
 -- `values::record::read_record` meets its contract: each way has its law in `Whole`. Assumes nothing.
 use Rattle.values.proofs.Whole.{record_long, record_broken, record-left, record_fits}
 use Rattle.values.specs.Filled.{required_of}
-use borrow.Author.Rules.{rules}
 use Rattle.values.proofs.record.read_record.Goals as goal
 
 pub returns-then-rec-gt-LONGEST : goal.returns-then-rec-gt-LONGEST

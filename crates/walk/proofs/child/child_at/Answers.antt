@@ -2,7 +2,6 @@
 use Rattle.walk.specs.declared.walk.PartFound.{PartFound}
 use Rattle.walk.proofs.Moving.{child_in}
 use mathlib.Core.Path.{refl}
-use borrow.Author.Rules.{rules}
 use Rattle.walk.proofs.child.child_at.Goals as goal
 
 pub returns : goal.returns

@@ -1,7 +1,5 @@
 -- `walk::child::first_child` meets its contract. Assumes nothing.
 use Rattle.walk.proofs.Children.{passed_none}
-use native.Mathlib.Omega.{arith}
-use borrow.Author.Rules.{rules}
 use Rattle.walk.proofs.child.first_child.Goals as goal
 
 pub returns : goal.returns

@@ -1,6 +1,5 @@
 -- `walk::child::first_part` meets its contract: by the code of the mapping. Assumes nothing.
 use Rattle.walk.proofs.Children.{reached_element}
-use borrow.Author.Rules.{rules}
 use Rattle.walk.proofs.child.first_part.Goals as goal
 
 pub returns : goal.returns

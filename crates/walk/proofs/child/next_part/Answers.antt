@@ -1,6 +1,5 @@
 -- `walk::child::next_part` meets its contract: by the code of the mapping. Assumes nothing.
 use Rattle.walk.proofs.Children.{reached-next, reached_same}
-use borrow.Author.Rules.{rules}
 use Rattle.walk.proofs.child.next_part.Goals as goal
 
 pub returns-then-plan-at-eq4 : goal.returns-then-plan-at-eq4

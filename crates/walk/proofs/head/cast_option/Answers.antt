@@ -1,5 +1,4 @@
 -- `walk::head::cast_option` meets its contract: the byte behind the type. Assumes nothing.
-use borrow.Author.Rules.{rules}
 use Rattle.walk.proofs.Heads.{option_is, option_unknown, option-ended}
 use Rattle.layout.proofs.View.{never_stuck}
 use Rattle.walk.proofs.head.cast_option.Goals as goal

@@ -1,5 +1,4 @@
 -- `walk::head::counted_at` meets its contract: the count, if one stands there. Assumes nothing.
-use borrow.Author.Rules.{rules}
 use Rattle.walk.proofs.Heads.{counted_is, count-missing}
 use Rattle.walk.proofs.head.counted_at.Goals as goal
 

@@ -1,5 +1,4 @@
 -- `walk::head::head` meets its contract: each code has its law. Assumes nothing.
-use borrow.Author.Rules.{rules}
 use Rattle.walk.proofs.Heads.{head-ended, head-position, head_uncounted, head-constant, head_unnamed, head-cast, head-rename, head-struct, head-list}
 use Rattle.walk.proofs.Heads.{head-array, head_unknown}
 use Rattle.walk.proofs.head.head.Goals as goal

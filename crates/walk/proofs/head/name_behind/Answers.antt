@@ -1,5 +1,4 @@
 -- `walk::head::name_behind` meets its contract: the name that stands there. Assumes nothing.
-use borrow.Author.Rules.{rules}
 use Rattle.walk.proofs.Heads.{name-is, name-missing}
 use Rattle.walk.proofs.head.name_behind.Goals as goal
 

@@ -1,5 +1,4 @@
 -- `walk::head::nth_selector` meets its contract: those before it are passed over. Assumes nothing.
-use borrow.Author.Rules.{rules}
 use Rattle.walk.proofs.Heads.{nth-is, nth_stuck}
 use Rattle.walk.proofs.head.nth_selector.Goals as goal
 

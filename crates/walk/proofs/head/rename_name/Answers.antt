@@ -1,5 +1,4 @@
 -- `walk::head::rename_name` meets its contract: the name behind the input. Assumes nothing.
-use borrow.Author.Rules.{rules}
 use Rattle.walk.proofs.head.rename_name.Goals as goal
 
 pub returns : goal.returns

@@ -1,5 +1,4 @@
 -- `walk::head::skip_by` meets its contract: a selector that stands there is not refused. Assumes nothing.
-use borrow.Author.Rules.{rules}
 use Rattle.walk.proofs.Heads.{selector-ends, selector_stuck}
 use Rattle.walk.proofs.head.skip_by.Goals as goal
 

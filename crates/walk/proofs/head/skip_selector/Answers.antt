@@ -1,6 +1,5 @@
 -- `walk::head::skip_selector` meets its contract: no constant's end is known. Assumes nothing.
 use Rattle.plan.proofs.Skipping.{skips-none}
-use borrow.Author.Rules.{rules}
 use Rattle.walk.proofs.head.skip_selector.Goals as goal
 
 pub skip_by-requires : goal.skip_by-requires

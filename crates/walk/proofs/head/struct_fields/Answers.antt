@@ -1,5 +1,4 @@
 -- `walk::head::struct_fields` meets its contract: the count behind the input. Assumes nothing.
-use borrow.Author.Rules.{rules}
 use Rattle.walk.proofs.head.struct_fields.Goals as goal
 
 pub returns : goal.returns

@@ -1,7 +1,4 @@
 -- `walk::inputs::chained` meets its contract: each code stands in the plan. Assumes nothing.
-use borrow.Author.Rules.{rules}
-use Prim.Native.Nat.{◌+◌, ◌-◌, ◌≤◌, ◌<◌}
-use lib.ListN.{length}
 use Rattle.plan.proofs.Skipping.{told}
 use native.Mathlib.Omega.{arith}
 use mathlib.Core.Path.{ap}

@@ -1,10 +1,5 @@
-use borrow.Author.Rules.{rules}
 use Prim.Native.Nat.{◌+◌, ◌-◌, ◌≤◌, ◌<◌}
 use lib.ListN.{length}
-use Rattle.plan.proofs.Skipping.{told}
-use native.Mathlib.Omega.{arith}
-use mathlib.Core.Path.{ap}
-use mathlib.Core.Bool.{not}
 use Rattle.walk.proofs.inputs.chained.Given as goal
 
 abbrev pub invariant-loop-n : goal.invariant-loop-n

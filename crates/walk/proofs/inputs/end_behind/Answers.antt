@@ -1,5 +1,4 @@
 -- `walk::inputs::end_behind` meets its contract: what stands behind the input, by the head. Assumes nothing.
-use borrow.Author.Rules.{rules}
 use Rattle.walk.proofs.Ending.{behind-cast, behind-rename, behind-struct, behind-list, behind-array}
 use Rattle.walk.proofs.Heads.{is-cast, is-rename, is_struct_mapping, is_list_mapping, is-array, never_refused}
 use Rattle.walk.proofs.inputs.end_behind.Goals as goal

@@ -1,5 +1,4 @@
 -- `walk::inputs::fields_end` meets its contract: where the last selector ends. Assumes nothing.
-use borrow.Author.Rules.{rules}
 use Rattle.walk.proofs.Ending.{fields_end, fields-lost, count_lost}
 use Rattle.walk.proofs.inputs.fields_end.Goals as goal
 

@@ -1,5 +1,4 @@
 -- `walk::inputs::goes_on` meets its contract: no code stands behind the end. Assumes nothing.
-use borrow.Author.Rules.{rules}
 use Rattle.layout.proofs.Ways.{clash}
 use Rattle.walk.proofs.inputs.goes_on.Goals as goal
 

@@ -1,6 +1,5 @@
 -- `walk::inputs::input_ends` meets its contract: from the innermost input outwards. Assumes nothing.
-use borrow.Author.Rules.{rules}
-use Rattle.walk.proofs.Ending.{Ending, ending, ending_more}
+use Rattle.walk.proofs.Ending.{ending, ending_more}
 use Rattle.walk.proofs.inputs.input_ends.Goals as goal
 
 pub loop-i-init : goal.loop-i-init

@@ -1,5 +1,4 @@
-use borrow.Author.Rules.{rules}
-use Rattle.walk.proofs.Ending.{Ending, ending, ending_more}
+use Rattle.walk.proofs.Ending.{Ending}
 use Rattle.walk.proofs.inputs.input_ends.Given as goal
 
 abbrev pub invariant-loop-i : goal.invariant-loop-i

@@ -1,5 +1,4 @@
 -- `walk::inputs::name_end` meets its contract: where the name ends. Assumes nothing.
-use borrow.Author.Rules.{rules}
 use Rattle.walk.proofs.Ending.{name-ends, name_lost}
 use Rattle.walk.proofs.inputs.name_end.Goals as goal
 

@@ -1,5 +1,4 @@
 -- `walk::inputs::no_ends` meets its contract: no end is known. Assumes nothing.
-use borrow.Author.Rules.{rules}
 use Rattle.walk.proofs.Ending.{ends-none}
 use mathlib.Core.Path.{refl}
 use Rattle.walk.proofs.inputs.no_ends.Goals as goal

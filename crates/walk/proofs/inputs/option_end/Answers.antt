@@ -2,7 +2,6 @@
 use mathlib.Core.Path.{refl}
 use Rattle.layout.proofs.View.{never_stuck}
 use Rattle.walk.proofs.Heads.{option-end, option-ended}
-use borrow.Author.Rules.{rules}
 use Rattle.walk.proofs.inputs.option_end.Goals as goal
 
 pub returns-in-Byte : goal.returns-in-Byte

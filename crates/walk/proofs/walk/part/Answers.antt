@@ -1,5 +1,4 @@
 -- `walk::walk::part` meets its contract: by the head. Assumes nothing.
-use borrow.Author.Rules.{rules}
 use Rattle.walk.proofs.Moving.{list-found, array-found, part-position, part-constant, part-cast, part-rename}
 use Rattle.walk.proofs.Heads.{is_position_lem, is-constant, is-cast, is-rename, is_struct_mapping, is_list_mapping, is-array, never_refused}
 use Rattle.walk.proofs.View.{selector_moved}

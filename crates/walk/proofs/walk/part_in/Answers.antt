@@ -1,5 +1,4 @@
 -- `walk::walk::part_in` meets its contract: what the table has is right. Assumes nothing.
-use borrow.Author.Rules.{rules}
 use Rattle.walk.proofs.walk.part_in.Goals as goal
 
 pub part-requires : goal.part-requires

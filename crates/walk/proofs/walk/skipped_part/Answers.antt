@@ -1,5 +1,4 @@
 -- `walk::walk::skipped_part` meets its contract: behind the input. Assumes nothing.
-use borrow.Author.Rules.{rules}
 use Rattle.walk.proofs.walk.skipped_part.Goals as goal
 
 pub part-requires : goal.part-requires

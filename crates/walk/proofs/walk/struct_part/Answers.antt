@@ -1,5 +1,4 @@
 -- `walk::walk::struct_part` meets its contract: the field of that number, if there are as many. Assumes nothing.
-use borrow.Author.Rules.{rules}
 use Rattle.walk.proofs.Moving.{field_found, field-none}
 use Rattle.walk.proofs.walk.struct_part.Goals as goal
 

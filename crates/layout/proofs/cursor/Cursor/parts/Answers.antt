@@ -1,5 +1,4 @@
 -- `layout::cursor::Cursor::parts` meets its contract. Assumes nothing.
-use borrow.Author.Rules.{rules}
 use Rattle.layout.proofs.View.{read_leaf, read_struct, read_element_lem, list-labelled, array-labelled, never_headless}
 use Rattle.layout.specs.declared.types.Head.{Head}
 use Rattle.layout.proofs.cursor.Cursor.parts.Goals as goal

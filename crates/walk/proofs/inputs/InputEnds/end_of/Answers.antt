@@ -1,5 +1,4 @@
 -- `walk::inputs::InputEnds::end_of` meets its contract: from the table, or by skipping. Assumes nothing.
-use borrow.Author.Rules.{rules}
 use Rattle.walk.proofs.inputs.InputEnds.end_of.Goals as goal
 
 pub returns : goal.returns

@@ -1,5 +1,4 @@
 -- `walk::inputs::InputEnds::knowing` meets its contract: one end is stored. Assumes nothing.
-use borrow.Author.Rules.{rules}
 use Rattle.walk.proofs.Ending.{ends_more}
 use mathlib.Core.Path.{refl}
 use Rattle.walk.proofs.inputs.InputEnds.knowing.Goals as goal

@@ -1,5 +1,4 @@
 -- `walk::inputs::InputEnds::known` meets its contract: the entry for that offset. Assumes nothing.
-use borrow.Author.Rules.{rules}
 use Rattle.walk.proofs.Ending.{known_is}
 use Rattle.walk.proofs.inputs.InputEnds.known.Goals as goal
 

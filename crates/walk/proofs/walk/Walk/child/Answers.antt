@@ -1,5 +1,4 @@
 -- `walk::walk::Walk::child` meets its contract: the input is skipped. Assumes nothing.
-use borrow.Author.Rules.{rules}
 use Rattle.walk.proofs.Walks.{walk_small}
 use Rattle.walk.proofs.walk.Walk.child.Goals as goal
 

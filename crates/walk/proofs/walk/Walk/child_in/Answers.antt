@@ -1,5 +1,4 @@
 -- `walk::walk::Walk::child_in` meets its contract: the input's end is known or found. Assumes nothing.
-use borrow.Author.Rules.{rules}
 use Rattle.walk.proofs.Walks.{walk_small}
 use Rattle.walk.proofs.walk.Walk.child_in.Goals as goal
 

@@ -1,5 +1,4 @@
 -- `walk::walk::Walk::ends_ahead` meets its contract: a walk stands inside the plan. Assumes nothing.
-use borrow.Author.Rules.{rules}
 use Rattle.walk.proofs.Walks.{walk_inside}
 use Rattle.walk.proofs.walk.Walk.ends_ahead.Goals as goal
 

@@ -1,5 +1,4 @@
 -- `walk::walk::Walk::enter` meets its contract: one mapping more is entered. Assumes nothing.
-use borrow.Author.Rules.{rules}
 use Rattle.walk.proofs.Walks.{enter}
 use native.Mathlib.Omega.{arith}
 use Rattle.walk.proofs.walk.Walk.enter.Goals as goal

@@ -1,5 +1,4 @@
 -- `walk::walk::Walk::entering` meets its contract: by the path and the part. Assumes nothing.
-use borrow.Author.Rules.{rules}
 use Rattle.walk.proofs.Moving.{entering-ended, entering-part, entering-none}
 use Rattle.walk.proofs.Walks.{walk_small}
 use Rattle.walk.proofs.walk.Walk.entering.Goals as goal

@@ -1,6 +1,5 @@
 -- `walk::walk::Walk::into_part` meets its contract: a number is put at the path's end, and the part entered. Assumes
 -- nothing.
-use borrow.Author.Rules.{rules}
 use Rattle.walk.proofs.Moving.{child-none, child_in}
 use Rattle.walk.proofs.walk.Walk.into_part.Goals as goal
 

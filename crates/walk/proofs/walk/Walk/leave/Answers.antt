@@ -1,5 +1,4 @@
 -- `walk::walk::Walk::leave` meets its contract: one mapping less is entered. Assumes nothing.
-use borrow.Author.Rules.{rules}
 use Rattle.walk.proofs.Walks.{leave}
 use Rattle.walk.proofs.walk.Walk.leave.Goals as goal
 

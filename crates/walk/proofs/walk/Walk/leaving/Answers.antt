@@ -1,5 +1,4 @@
 -- `walk::walk::Walk::leaving` meets its contract: by the innermost mapping. Assumes nothing.
-use borrow.Author.Rules.{rules}
 use Rattle.walk.proofs.Moving.{leaving-column, inner-inside, leaving-field, leaving-element, leaving-none}
 use mathlib.Core.Path.{refl}
 use Rattle.walk.proofs.walk.Walk.leaving.Goals as goal

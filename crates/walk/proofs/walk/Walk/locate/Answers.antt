@@ -1,9 +1,5 @@
 -- `walk::walk::Walk::locate` meets its contract: each move leaves less, and none is left at the end. Assumes nothing.
-use borrow.Author.Rules.{rules}
-use Rattle.walk.specs.code.State.{State}
-use Rattle.walk.specs.code.Ends.{EndsAt}
-use Rattle.walk.specs.code.Walks.{WalkAt, rank}
-use Rattle.walk.proofs.Moving.{Walking, walking_none, walking_input, walking_enter, walking_leave, walking_done, input_asks, enter_asks, leave_asks}
+use Rattle.walk.proofs.Moving.{walking_none, walking_input, walking_enter, walking_leave, walking_done, input_asks, enter_asks, leave_asks}
 use Rattle.walk.proofs.walk.Walk.locate.Goals as goal
 
 pub loop-w-init : goal.loop-w-init
@@ -28,12 +24,11 @@ loop-w-smaller-in-Input c =
     c.in-Input.is c.to_input-w.ensures).1
 
 pub loop-w-preserved-in-Input : goal.loop-w-preserved-in-Input
-loop-w-preserved-in-Input c =
-    (
-      λ x M. let N = c.loop-w.invariant.0 x M in (walking_input N (c.next_move.ensures N.state N.standing) c.in-Input.is
-          c.to_input-w.ensures).0,
-      c.ends_ahead-ends.ensures,
-    )
+loop-w-preserved-in-Input c = (
+  λ x M. let N = c.loop-w.invariant.0 x M in (walking_input N (c.next_move.ensures N.state N.standing) c.in-Input.is
+      c.to_input-w.ensures).0,
+  c.ends_ahead-ends.ensures,
+)
 
 pub enter-w-requires : goal.enter-w-requires
 enter-w-requires c =
@@ -45,12 +40,11 @@ loop-w-smaller-in-Enter c =
     c.enter-w.ensures).1
 
 pub loop-w-preserved-in-Enter : goal.loop-w-preserved-in-Enter
-loop-w-preserved-in-Enter c =
-    (
-      λ x M. let N = c.loop-w.invariant.0 x M in (walking_enter N (c.next_move.ensures N.state N.standing) c.in-Enter.is
-          c.enter-w.ensures).0,
-      c.ends_ahead-ends.ensures,
-    )
+loop-w-preserved-in-Enter c = (
+  λ x M. let N = c.loop-w.invariant.0 x M in (walking_enter N (c.next_move.ensures N.state N.standing) c.in-Enter.is
+      c.enter-w.ensures).0,
+  c.ends_ahead-ends.ensures,
+)
 
 pub leave-w-requires : goal.leave-w-requires
 leave-w-requires c =
@@ -62,12 +56,11 @@ loop-w-smaller c =
     c.leave-w.ensures).1
 
 pub loop-w-preserved : goal.loop-w-preserved
-loop-w-preserved c =
-    (
-      λ x M. let N = c.loop-w.invariant.0 x M in (walking_leave N (c.next_move.ensures N.state N.standing) c.in-Leave.is
-          c.leave-w.ensures).0,
-      c.ends_ahead-ends.ensures,
-    )
+loop-w-preserved c = (
+  λ x M. let N = c.loop-w.invariant.0 x M in (walking_leave N (c.next_move.ensures N.state N.standing) c.in-Leave.is
+      c.leave-w.ensures).0,
+  c.ends_ahead-ends.ensures,
+)
 
 pub returns : goal.returns
 returns c =

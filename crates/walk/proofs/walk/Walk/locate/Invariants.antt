@@ -1,8 +1,7 @@
-use borrow.Author.Rules.{rules}
 use Rattle.walk.specs.code.State.{State}
 use Rattle.walk.specs.code.Ends.{EndsAt}
 use Rattle.walk.specs.code.Walks.{WalkAt, rank}
-use Rattle.walk.proofs.Moving.{Walking, walking_none, walking_input, walking_enter, walking_leave, walking_done, input_asks, enter_asks, leave_asks}
+use Rattle.walk.proofs.Moving.{Walking}
 use Rattle.walk.proofs.walk.Walk.locate.Given as goal
 
 abbrev pub invariant-loop-w : goal.invariant-loop-w

@@ -1,5 +1,4 @@
 -- `walk::walk::Walk::next_move` meets its contract: by the head. Assumes nothing.
-use borrow.Author.Rules.{rules}
 use Rattle.walk.proofs.Moving.{walk_is, walk_mapping, next-constant, next_cast_lem, next-rename, next-renamed}
 use Rattle.walk.specs.code.Moves.{is_struct_mapping as a_struct_lem, is_list_mapping as a_list_lem, is-array as an_array_lem}
 use Rattle.walk.proofs.Heads.{is_position_lem, is-constant, is-cast, is-rename, is_struct_mapping, is_list_mapping, is-array, never_refused}

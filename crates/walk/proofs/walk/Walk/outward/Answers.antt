@@ -1,5 +1,4 @@
 -- `walk::walk::Walk::outward` meets its contract: one mapping less is entered, and no path is left. Assumes nothing.
-use borrow.Author.Rules.{rules}
 use Rattle.walk.proofs.Walks.{outward}
 use mathlib.Core.Path.{refl}
 use Rattle.walk.proofs.walk.Walk.outward.Goals as goal

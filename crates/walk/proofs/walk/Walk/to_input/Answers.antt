@@ -1,5 +1,4 @@
 -- `walk::walk::Walk::to_input` meets its contract: the input stands behind the code. Assumes nothing.
-use borrow.Author.Rules.{rules}
 use Rattle.walk.proofs.Walks.{to_input}
 use Rattle.walk.proofs.walk.Walk.to_input.Goals as goal
 
