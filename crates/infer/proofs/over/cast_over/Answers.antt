@@ -1,8 +1,7 @@
 -- `infer::over::cast_over` meets its contract. Assumes nothing.
-use borrow.Author.Tests.{not-false}
 use Rattle.infer.proofs.Transforms.{cast-type, cast_infers}
-use mathlib.Core.Path.{ap}
-use mathlib.Core.Bool.{not}
+use mathlib.Core.Path.{◌≡◌}
+use mathlib.Core.Bool.{true}
 use Rattle.infer.proofs.over.cast_over.Goals as goal
 
 pub copy_type-requires : goal.copy_type-requires
@@ -11,5 +10,6 @@ copy_type-requires c =
 
 pub returns : goal.returns
 returns c =
-    λ T a P S Γ n e. let Q = cast-type S (c.skip_selector-t.ensures S.input) in cast_infers T Γ S e (c.cast_option.ensures Q S.option)
-    (c.type_fits.ensures T Q) (not-false _ (ap not c.if-not-type_fits.false)) (c.copy_type.ensures Q) c.requires.s_len_bound.4
+    λ T a P S Γ n e. let Q = cast-type S (c.skip_selector-t.ensures S.input) in
+    let fits : c.type_fits.result ≡ true = cc in
+    cast_infers T Γ S e (c.cast_option.ensures Q S.option) (c.type_fits.ensures T Q) fits (c.copy_type.ensures Q) c.requires.s_len_bound.4
