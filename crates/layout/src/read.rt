@@ -223,7 +223,9 @@ fn read_counted(s: &[u8], v: Edition, seen: &mut [u16]) -> LayoutRead
     }
 }
 
-// At most 4,096 bytes, which have at most 1,086 columns with labels of their own.
+// At most 4,096 bytes, which have at most 1,086 columns with labels of their own. Not inlined, and `read_long` neither,
+// so that a call has one of the two tables on its stack and not both.
+#[inline(never)]
 fn read_short(s: &[u8], v: Edition) -> LayoutRead
     ensures { result ≡ layout_of (counted v s.now 5) }
 {
@@ -232,6 +234,7 @@ fn read_short(s: &[u8], v: Edition) -> LayoutRead
 }
 
 // At most 16,384 bytes, which have at most 4,158.
+#[inline(never)]
 fn read_long(s: &[u8], v: Edition) -> LayoutRead
     ensures { result ≡ layout_of (counted v s.now 5) }
 {

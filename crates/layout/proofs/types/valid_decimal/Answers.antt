@@ -1,4 +1,4 @@
--- `layout::types::valid_decimal` meets its contract: the tests of `validDecimal`, in their order. Assumes nothing.
+-- `layout::types::valid_decimal` meets its contract: the tests of `valid_decimal`, in their order. Assumes nothing.
 use borrow.Author.Tests.{le-leb, lt-leb}
 use Rattle.layout.proofs.types.valid_decimal.Goals as goal
 

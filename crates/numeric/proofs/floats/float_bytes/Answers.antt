@@ -1,4 +1,4 @@
--- `numeric::floats::float_bytes` meets its contract: each arm is a case of `floatBytes`. Assumes nothing.
+-- `numeric::floats::float_bytes` meets its contract: each arm is a case of `float_bytes`. Assumes nothing.
 use Rattle.numeric.proofs.floats.float_bytes.Goals as goal
 
 pub returns-in-Binary16 : goal.returns-in-Binary16

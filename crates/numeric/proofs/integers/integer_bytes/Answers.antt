@@ -1,4 +1,4 @@
--- `numeric::integers::integer_bytes` meets its contract: each arm is a case of `integerBytes`. Assumes nothing.
+-- `numeric::integers::integer_bytes` meets its contract: each arm is a case of `integer_bytes`. Assumes nothing.
 use Rattle.numeric.proofs.integers.integer_bytes.Goals as goal
 
 pub returns-in-Int8 : goal.returns-in-Int8

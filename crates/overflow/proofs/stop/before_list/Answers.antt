@@ -1,4 +1,4 @@
--- `overflow::stop::before_list` meets its contract: each want is a case of `listStop`. Assumes nothing.
+-- `overflow::stop::before_list` meets its contract: each want is a case of `list_stop`. Assumes nothing.
 use Rattle.overflow.specs.code.Seek.{list_stop}
 use Rattle.overflow.proofs.stop.before_list.Goals as goal
 

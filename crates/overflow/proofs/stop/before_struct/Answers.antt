@@ -1,4 +1,4 @@
--- `overflow::stop::before_struct` meets its contract: each want is a case of `structStop`. Assumes nothing.
+-- `overflow::stop::before_struct` meets its contract: each want is a case of `struct_stop`. Assumes nothing.
 use Rattle.overflow.specs.code.Seek.{struct_stop}
 use Rattle.overflow.proofs.stop.before_struct.Goals as goal
 

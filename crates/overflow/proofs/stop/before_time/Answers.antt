@@ -1,4 +1,4 @@
--- `overflow::stop::before_time` meets its contract: each want is a case of `timeStop`. Assumes nothing.
+-- `overflow::stop::before_time` meets its contract: each want is a case of `time_stop`. Assumes nothing.
 use Rattle.overflow.specs.code.Seek.{time_stop}
 use Rattle.overflow.proofs.stop.before_time.Goals as goal
 

@@ -1,4 +1,4 @@
--- `overflow::want::bounds_before` meets its contract: each pair of units is a case of `unitChange`. Assumes nothing.
+-- `overflow::want::bounds_before` meets its contract: each pair of units is a case of `unit_change`. Assumes nothing.
 use Rattle.overflow.specs.code.Want.{bounds_before}
 use Rattle.overflow.proofs.want.bounds_before.Goals as goal
 

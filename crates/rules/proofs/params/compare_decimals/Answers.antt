@@ -1,4 +1,4 @@
--- `rules::params::compare_decimals` meets its contract: the tests of `decimalsOf`, each where it decides. Assumes
+-- `rules::params::compare_decimals` meets its contract: the tests of `decimals_of`, each where it decides. Assumes
 -- nothing.
 use borrow.Author.Tests.{eq-eqb, ne_eqb, lt-ltb, le-ltb}
 use Rattle.rules.specs.Params.{decimals_of}

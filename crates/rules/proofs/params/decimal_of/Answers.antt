@@ -1,4 +1,4 @@
--- `rules::params::decimal_of` meets its contract: each arm is a case of `decimalOf`. Assumes nothing.
+-- `rules::params::decimal_of` meets its contract: each arm is a case of `decimal_of`. Assumes nothing.
 use Rattle.rules.proofs.params.decimal_of.Goals as goal
 
 pub returns-in-Decimal : goal.returns-in-Decimal

@@ -1,4 +1,4 @@
--- `values::content::content_of` meets its contract: each arm is a case of `contentOf`. Assumes nothing.
+-- `values::content::content_of` meets its contract: each arm is a case of `content_of`. Assumes nothing.
 use Rattle.values.proofs.content.content_of.Goals as goal
 
 pub returns-in-Integer : goal.returns-in-Integer
