@@ -13,26 +13,24 @@ mod replay;
 mod report;
 mod single_pass;
 
-ghost use Rattle.std.specs.Prelude.{◌≡◌, IfOk, vec_len};
+ghost use Rattle.std.specs.Prelude.{◌≡◌, length};
 
 use files::read_full;
-use std::alloc::{AllocError, Global};
 use std::io;
 
 // A list that fills this buffer may have been cut off, which the report says.
 const SPACE: usize = 4194304;
 
-// On the heap, since a program's stack holds little more.
-fn space(alloc: Global) -> Result<Vec<u8>, AllocError>
-    ensures { IfOk result (λ v. 4194304 ≡ vec_len v) }
+fn space() -> [u8; SPACE]
+    ensures { 4194304 ≡ length result }
 {
-    vec![in alloc; 0; SPACE]
+    [0; SPACE]
 }
 
 fn main(rt: HostRuntime) -> io::Result<()> {
-    let mut space = space(rt.alloc())?;
-    let n = read_full(&mut rt.reader(), &mut space);
-    let list = &space[..n];
+    let mut list = space();
+    let n = read_full(&mut rt.reader(), &mut list);
+    let list = &list[..n];
     passes::shares(&rt, list)?;
     report::summary(&rt, replay::replay(&rt, list)?, n < SPACE)
 }
