@@ -80,66 +80,27 @@ fn put_selector(
     if depth == 0 {
         return Ok(());
     }
+    let left = depth - 1;
     match head(plan, c) {
         SelectorHead::Position(k) => put_position(rt, plan, incoming, scope, k),
         SelectorHead::Constant(name, t) => put_constant(rt, plan, name, t, level),
         SelectorHead::Cast(input) => {
             put_cast(rt, plan, input, level)?;
-            put_input(rt, plan, incoming, scope, target, depth - 1, input, level)
+            put_input(rt, plan, incoming, scope, target, left, input, level)
         }
         SelectorHead::Rename(input) => {
-            put_rename(
-                rt,
-                plan,
-                incoming,
-                scope,
-                target,
-                made,
-                depth - 1,
-                input,
-                level,
-            )
+            put_rename(rt, plan, incoming, scope, target, made, left, input, level)
         }
         SelectorHead::Struct(input) => {
-            put_struct(
-                rt,
-                plan,
-                incoming,
-                scope,
-                target,
-                made,
-                depth - 1,
-                input,
-                level,
-            )
+            put_struct(rt, plan, incoming, scope, target, made, left, input, level)
         }
         SelectorHead::List(input) => {
             let item = put_list(rt, target, made)?;
-            put_element(
-                rt,
-                plan,
-                incoming,
-                scope,
-                target,
-                item,
-                depth - 1,
-                input,
-                level,
-            )
+            put_element(rt, plan, incoming, scope, target, item, left, input, level)
         }
         SelectorHead::Array(input) => {
             let item = put_array(rt, target, made)?;
-            put_element(
-                rt,
-                plan,
-                incoming,
-                scope,
-                target,
-                item,
-                depth - 1,
-                input,
-                level,
-            )
+            put_element(rt, plan, incoming, scope, target, item, left, input, level)
         }
         SelectorHead::Refused => Ok(()),
     }
