@@ -11,7 +11,6 @@ use Rattle.store.specs.LittleEndian.{little_bytes}
 use Rattle.store.proofs.Overlay.{length-little}
 use Rattle.numeric.specs.declared.integers.Integer.{Integer}
 use Rattle.numeric.specs.declared.floats.Format.{Format}
-use Rattle.numeric.specs.declared.times.Finer.{Finer}
 use Rattle.numeric.specs.Integers.{signed, pattern, widened}
 use Rattle.numeric.specs.Floats.{integer_to_float, float_to_float}
 use Rattle.numeric.specs.Times.{finer, coarser}
@@ -26,6 +25,7 @@ use Rattle.rules.specs.declared.kinds.Class.{Class}
 use Rattle.rules.specs.Classes.{class_of}
 use Rattle.convert.specs.declared.leaf.UnitChange.{UnitChange}
 use Rattle.convert.specs.declared.leaf.Converted.{Converted}
+use Rattle.std.specs.Prelude.{Option, Some, None}
 
 -- ---- a date-time's unit
 
@@ -37,12 +37,12 @@ module _ {c : UnitChange} where
   divides h e = rw e at h
 
   module _ (k : Leaf) (n : ℕ) where
-    pub rescaled-count : {f m : ℕ} {p : Finer} → c ≡ UnitChange.Multiply f → p ≡ finer (signed 64 n) f → p ≡ Finer.Count m → vnumber k m ≡ rescaled
+    pub rescaled-count : {f m : ℕ} {p : Option ℕ} → c ≡ UnitChange.Multiply f → p ≡ finer (signed 64 n) f → p ≡ Some m → vnumber k m ≡ rescaled
         (change_of c) k n
     unfolding rescaled counted
     rescaled-count e g h = rw (e, ← g, h)
 
-    pub rescaled-over : {f : ℕ} {p : Finer} → c ≡ UnitChange.Multiply f → p ≡ finer (signed 64 n) f → p ≡ Finer.TooLarge → voverflow ≡ rescaled (change_of c) k n
+    pub rescaled-over : {f : ℕ} {p : Option ℕ} → c ≡ UnitChange.Multiply f → p ≡ finer (signed 64 n) f → p ≡ None → voverflow ≡ rescaled (change_of c) k n
     unfolding rescaled counted
     rescaled-over e g h = rw (e, ← g, h)
 

@@ -9,7 +9,7 @@ ghost use Rattle.convert.specs.code.Converted.{change_of, Positive, value_of};
 use layout::leaf::{Leaf, TimeUnit};
 use numeric::floats::{Format, convert, from_integer};
 use numeric::integers::{Integer, widen};
-use numeric::times::{Finer, divide, multiply};
+use numeric::times::{divide, multiply};
 use rules::kinds::{Class, class_of};
 
 // A number of the kind that was asked for, or a date-time that is too large.
@@ -56,8 +56,8 @@ fn rescale(c: UnitChange, n: u64) -> Converted
 {
     match c {
         UnitChange::Multiply(f) => match multiply(n, f) {
-            Finer::Count(m) => Converted::Number(m),
-            Finer::TooLarge => Converted::Overflow,
+            Some(m) => Converted::Number(m),
+            None => Converted::Overflow,
         },
         UnitChange::Divide(f) => Converted::Number(divide(n, f)),
         UnitChange::Keep => Converted::Number(n),

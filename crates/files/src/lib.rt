@@ -15,15 +15,13 @@ pub fn read_full(input: &mut impl Read, buffer: &mut [u8]) -> usize
 {
     let mut done = 0;
     while done < buffer.len() {
-        match input.read(&mut buffer[done..]) {
-            Ok(n) => {
-                if n == 0 {
-                    return done;
-                }
-                done += n;
-            }
-            Err(_) => return done,
+        let Ok(n) = input.read(&mut buffer[done..]) else {
+            return done;
+        };
+        if n == 0 {
+            return done;
         }
+        done += n;
     }
     done
 }

@@ -1,20 +1,7 @@
 // Words of a line, and what they stand for: hexadecimal digits for bytes (`-` for none) and decimal numbers.
 #![tactic(auto)]
 
-ghost use Rattle.std.specs.Prelude.{◌≤◌, length};
-
-// Where a word stands.
-#[derive(Clone, Copy)]
-struct Span {
-    start: usize,
-    end: usize,
-}
-
-#[derive(Clone, Copy)]
-pub enum Decimal {
-    Is(u32),
-    Malformed,
-}
+ghost use Rattle.std.specs.Prelude.{◌≤◌, ◌<◌, length, IfSome};
 
 // The first place from `at` on where `b` stands, or else the end.
 pub fn find(s: &[u8], b: u8, at: usize) -> usize
@@ -22,146 +9,74 @@ pub fn find(s: &[u8], b: u8, at: usize) -> usize
     ensures lower_bound { at ≤ result }
     ensures upper_bound { result ≤ length s.now }
 {
-    let mut i = at;
-    while i < s.len() {
-        if s[i] == b {
-            return i;
-        }
-        i += 1;
+    match s[at..].iter().position(|x| *x == b) {
+        Some(k) => at + k,
+        None => s.len(),
     }
-    i
 }
 
-// The first place from `at` on where `b` does not stand, or else the end.
-fn skip(s: &[u8], b: u8, at: usize) -> usize
-    requires { at ≤ length s.now }
-    ensures lower_bound { at ≤ result }
-    ensures upper_bound { result ≤ length s.now }
+// A line from the first byte on that is no space.
+fn without_spaces(line: &[u8]) -> &[u8]
+    ensures { length result.now ≤ length line.now }
 {
-    let mut i = at;
-    while i < s.len() {
-        if s[i] != b {
-            return i;
-        }
-        i += 1;
+    match line.iter().position(|b| *b != b' ') {
+        Some(k) => &line[k..],
+        None => &line[line.len()..],
     }
-    i
 }
 
-// The word that begins at `at` or after the spaces there.
-fn range_from(s: &[u8], at: usize) -> Span
-    requires { at ≤ length s.now }
-    ensures start_le_end { result.start ≤ result.end }
-    ensures end_in_bounds { result.end ≤ length s.now }
+// From word `k` of a line to its end; past the last word it is empty.
+pub fn from_word(line: &[u8], k: usize) -> &[u8]
+    ensures { length result.now ≤ length line.now }
 {
-    let start = skip(s, b' ', at);
-    let end = find(s, b' ', start);
-    Span { start, end }
-}
-
-// Where word `k` of a line stands; past the last word an empty range at the end.
-fn range(s: &[u8], k: usize) -> Span
-    ensures start_le_end { result.start ≤ result.end }
-    ensures end_in_bounds { result.end ≤ length s.now }
-{
-    let mut at: usize = 0;
-    let mut i: usize = 0;
-    while i < k {
-        let r = range_from(s, at);
-        at = r.end;
-        i += 1;
+    let mut rest = without_spaces(line);
+    for _ in 0..k {
+        rest = without_spaces(&rest[find(rest, b' ', 0)..]);
     }
-    range_from(s, at)
+    rest
 }
 
 // Word `k` of a line, from 0; past the last word it is empty.
-pub fn word(s: &[u8], k: usize) -> &[u8]
-    ensures { length result.now ≤ length s.now }
+pub fn word(line: &[u8], k: usize) -> &[u8]
+    ensures { length result.now ≤ length line.now }
 {
-    let r = range(s, k);
-    let start = r.start;
-    let end = r.end;
-    &s[start..end]
+    let rest = from_word(line, k);
+    &rest[..find(rest, b' ', 0)]
 }
 
-// From word `k` of a line to its end.
-pub fn from_word(s: &[u8], k: usize) -> &[u8]
-    ensures { length result.now ≤ length s.now }
-{
-    let r = range(s, k);
-    let start = r.start;
-    &s[start..]
-}
-
-// A hexadecimal digit's value, or 16.
-fn digit(b: u8) -> u8
-    ensures { result ≤ 16 }
+// A hexadecimal digit's value.
+fn digit(b: u8) -> Option<u8>
+    ensures { IfSome result (λ n. n < 16) }
 {
     match b {
-        48..=57 => b - 48,
-        97..=102 => b - 87,
-        _ => 16,
+        b'0'..=b'9' => Some(b - b'0'),
+        b'a'..=b'f' => Some(b - b'a' + 10),
+        _ => None,
     }
-}
-
-fn all_digits(s: &[u8]) -> bool {
-    let mut i = 0;
-    while i < s.len() {
-        if 15 < digit(s[i]) {
-            return false;
-        }
-        i += 1;
-    }
-    true
-}
-
-fn is_dash(s: &[u8]) -> bool {
-    if s.len() != 1 {
-        return false;
-    }
-    s[0] == b'-'
 }
 
 // Whether a word is `-`, or two digits for each of at most `most` bytes.
 fn is_hex(s: &[u8], most: usize) -> bool {
-    if is_dash(s) {
-        return true;
-    }
-    if s.len() == 0 {
-        return false;
-    }
-    if s.len() % 2 == 1 {
-        return false;
-    }
-    if most < s.len() / 2 {
-        return false;
-    }
-    all_digits(s)
+    s == b"-".as_slice()
+        || !s.is_empty()
+            && s.len() % 2 == 0
+            && s.len() / 2 <= most
+            && s.iter().all(|b| digit(*b).is_some())
 }
 
-// The byte of two digits.
+// The byte of two digits; another character counts as 0.
 fn pair(high: u8, low: u8) -> u8 {
-    digit(high) % 16 * 16 + digit(low) % 16
-}
-
-fn least(a: usize, b: usize) -> usize
-    ensures upper_bound { result ≤ a }
-    ensures upper_bound_2 { result ≤ b }
-{
-    if a < b { a } else { b }
+    digit(high).unwrap_or(0) * 16 + digit(low).unwrap_or(0)
 }
 
 // Puts the bytes of a word that is hexadecimal at the start of `out`, as far as they fit, and answers how many.
 fn decode(s: &[u8], out: &mut [u8]) -> usize
     ensures { result ≤ length out.new }
 {
-    let n = least(s.len() / 2, out.len());
-    let mut i = 0;
-    while i < n {
-        out[i] = pair(s[2 * i], s[2 * i + 1]);
-        i += 1;
+    for (byte, digits) in out.iter_mut().zip(s.chunks_exact(2)) {
+        *byte = pair(digits[0], digits[1]);
     }
-    n
+    out.len().min(s.len() / 2)
 }
 
 // Whether word `k` of a line is hexadecimal, of at most `most` bytes.
@@ -177,46 +92,25 @@ pub fn take_bytes(line: &[u8], k: usize, out: &mut [u8]) -> usize
 }
 
 // One more decimal digit.
-fn followed(x: Decimal, b: u8) -> Decimal {
-    match x {
-        Decimal::Is(k) => {
-            if b < 48 {
-                return Decimal::Malformed;
-            }
-            if 57 < b {
-                return Decimal::Malformed;
-            }
-            let more = (k as u64) * 10 + ((b - 48) as u64);
-            if more < 4294967296 {
-                Decimal::Is(more as u32)
-            } else {
-                Decimal::Malformed
-            }
-        }
-        Decimal::Malformed => Decimal::Malformed,
+fn followed(x: u32, b: u8) -> Option<u32> {
+    if !b.is_ascii_digit() {
+        return None;
     }
+    x.checked_mul(10)?.checked_add(u32::from(b - b'0'))
 }
 
 // A decimal number below 2^32.
-pub fn number(s: &[u8]) -> Decimal {
-    if s.len() == 0 {
-        return Decimal::Malformed;
+pub fn number(s: &[u8]) -> Option<u32> {
+    if s.is_empty() {
+        return None;
     }
-    let mut x = Decimal::Is(0);
-    let mut i = 0;
-    while i < s.len() {
-        x = followed(x, s[i]);
-        i += 1;
-    }
-    x
+    s.iter().try_fold(0, |x, b| followed(x, *b))
 }
 
 // The length of a buffer that word `k` gives, as far as `buffer` goes.
 pub fn room_in(line: &[u8], k: usize, buffer: &[u8]) -> usize
     ensures { result ≤ length buffer.now }
 {
-    match number(word(line, k)) {
-        Decimal::Is(n) => least(n as usize, buffer.len()),
-        Decimal::Malformed => 0,
-    }
+    let n = number(word(line, k)).unwrap_or(0);
+    buffer.len().min(n as usize)
 }

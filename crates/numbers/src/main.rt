@@ -4,12 +4,11 @@
 // machine's own arithmetic.
 #![tactic(auto)]
 
-ghost use Rattle.std.specs.Prelude.{◌+◌, ◌≤◌, ◌<◌, length};
+ghost use Rattle.std.specs.Prelude.{◌<◌};
 
 use files::read_full;
 use numeric::floats::Format;
 use numeric::integers::Integer;
-use numeric::times::Finer;
 use std::io;
 
 fn integer(code: u8) -> Integer {
@@ -36,54 +35,33 @@ fn format(code: u8) -> Format {
 fn factor(code: u8) -> u64
     ensures { 0 < result }
 {
-    match code {
-        0 => 1000,
-        _ => 1000000,
-    }
+    if code == 0 { 1000 } else { 1_000_000 }
 }
 
-fn answer(op: u8, from: u8, to: u8, b: u64) -> Finer {
+fn answer(op: u8, from: u8, to: u8, b: u64) -> Option<u64> {
     match op {
-        0 => Finer::Count(numeric::floats::from_integer(b, integer(from), format(to))),
-        1 => Finer::Count(numeric::floats::convert(b, format(from), format(to))),
-        2 => Finer::Count(numeric::integers::widen(b, integer(from), integer(to))),
+        0 => Some(numeric::floats::from_integer(b, integer(from), format(to))),
+        1 => Some(numeric::floats::convert(b, format(from), format(to))),
+        2 => Some(numeric::integers::widen(b, integer(from), integer(to))),
         3 => numeric::times::multiply(b, factor(to)),
-        _ => Finer::Count(numeric::times::divide(b, factor(to))),
+        _ => Some(numeric::times::divide(b, factor(to))),
     }
 }
 
-fn print_line(rt: &impl Print, f: Finer) -> io::Result<()> {
+fn print_line(rt: &impl Print, f: Option<u64>) -> io::Result<()> {
     match f {
-        Finer::Count(n) => println!(rt; "{n:016x}"),
-        Finer::TooLarge => println!(rt; "too large"),
+        Some(n) => println!(rt; "{n:016x}"),
+        None => println!(rt; "too large"),
     }
-}
-
-fn wide(x: u8) -> u64
-    ensures { result < 256 }
-{
-    x as u64
-}
-
-fn number(s: &[u8], at: usize) -> u64
-    requires { at + 8 ≤ length s.now }
-{
-    let low = wide(s[at])
-        + wide(s[at + 1]) * 256
-        + wide(s[at + 2]) * 65536
-        + wide(s[at + 3]) * 16777216;
-    let high = wide(s[at + 4])
-        + wide(s[at + 5]) * 256
-        + wide(s[at + 6]) * 65536
-        + wide(s[at + 7]) * 16777216;
-    low + high * 4294967296
 }
 
 fn run(rt: &impl Print, s: &[u8]) -> io::Result<()> {
-    let mut at: usize = 0;
-    while 16 <= s.len() - at {
-        print_line(rt, answer(s[at], s[at + 1], s[at + 2], number(s, at + 8)))?;
-        at += 16;
+    for record in s.chunks_exact(16) {
+        let pattern = <[u8; 8]>::try_from(&record[8..]).unwrap();
+        print_line(
+            rt,
+            answer(record[0], record[1], record[2], u64::from_le_bytes(pattern)),
+        )?;
     }
     Ok(())
 }
@@ -96,7 +74,8 @@ fn replay(rt: &(impl Input + Print), buf: &mut [u8]) -> io::Result<()> {
 
 fn main(rt: HostRuntime) -> io::Result<()> {
     let mut buf = [0u8; 65536];
-    replay(&rt, &mut buf)?;
-    replay(&rt, &mut buf)?;
-    replay(&rt, &mut buf)
+    for _ in 0..3 {
+        replay(&rt, &mut buf)?;
+    }
+    Ok(())
 }

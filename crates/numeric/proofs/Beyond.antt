@@ -10,12 +10,11 @@ use borrow.Author.Tests.{lt-ltb, le-ltb, le-leb, lt-leb}
 use lib.Dec.{leb, ltb}
 use lib.IntN.{ℤ, pos, negsuc, ◌*ℤ◌, pos-*ℤ-pos}
 use lib.Signed.{mag}
-use Rattle.numeric.specs.declared.times.Finer.{Finer}
-use Rattle.numeric.specs.declared.times.Finer.TheVariants.{Count, TooLarge}
 use Rattle.numeric.specs.Integers.{pattern}
 use Rattle.numeric.specs.Times.{pick_finer, finer, coarser}
 use Rattle.numeric.proofs.Nearest.{lt_or_ge}
 use Rattle.numeric.proofs.Units.{neg_times}
+use Rattle.std.specs.Prelude.{Option, Some, None}
 
 -- z is n with n from a on, or -(n + 1) with n from b on
 abbrev pub beyond : ℕ → ℕ → ℤ → Bool
@@ -58,18 +57,18 @@ beyond-coarser (pos n) k a b K = quotient a n k K
 beyond-coarser (negsuc n) k a b K = quotient b n k K
 
 -- too large, by the count before
-pub finer-beyond : (z : ℤ) (k : ℕ) → 0 < k → finer z k ≡ pick_finer (beyond ((2 ^ 63 + (k - 1)) / k) (2 ^ 63 / k) z) TooLarge (Count (pattern 64 (z *ℤ pos k)))
+pub finer-beyond : (z : ℤ) (k : ℕ) → 0 < k → finer z k ≡ pick_finer (beyond ((2 ^ 63 + (k - 1)) / k) (2 ^ 63 / k) z) None (Some (pattern 64 (z *ℤ pos k)))
 unfolding finer
-finer-beyond z k K = go (z *ℤ pos k) (Count (pattern 64 (z *ℤ pos k))) ∙ ap (λ (t : Bool). pick_finer t TooLarge (Count (pattern 64 (z *ℤ pos k))))
+finer-beyond z k K = go (z *ℤ pos k) (Some (pattern 64 (z *ℤ pos k))) ∙ ap (λ (t : Bool). pick_finer t None (Some (pattern 64 (z *ℤ pos k))))
     (beyond-times z k (2 ^ 63) (2 ^ 63) K)
   where
-    swap : (n : ℕ) (x : Finer) → pick_finer (ltb n (2 ^ 63)) x TooLarge ≡ pick_finer (leb (2 ^ 63) n) TooLarge x
+    swap : (n : ℕ) (x : Option ℕ) → pick_finer (ltb n (2 ^ 63)) x None ≡ pick_finer (leb (2 ^ 63) n) None x
     swap n x = at (lt_or_ge n (2 ^ 63))
       where
-        at : (n < 2 ^ 63) ⊎ (2 ^ 63 ≤ n) → pick_finer (ltb n (2 ^ 63)) x TooLarge ≡ pick_finer (leb (2 ^ 63) n) TooLarge x
-        at (inl l) = ap (λ (t : Bool). pick_finer t x TooLarge) (lt-ltb n (2 ^ 63) l) ∙ sym (ap (λ (t : Bool). pick_finer t TooLarge x) (lt-leb (2 ^ 63) n l))
-        at (inr l) = ap (λ (t : Bool). pick_finer t x TooLarge) (le-ltb n (2 ^ 63) l) ∙ sym (ap (λ (t : Bool). pick_finer t TooLarge x) (le-leb (2 ^ 63) n l))
+        at : (n < 2 ^ 63) ⊎ (2 ^ 63 ≤ n) → pick_finer (ltb n (2 ^ 63)) x None ≡ pick_finer (leb (2 ^ 63) n) None x
+        at (inl l) = ap (λ (t : Bool). pick_finer t x None) (lt-ltb n (2 ^ 63) l) ∙ sym (ap (λ (t : Bool). pick_finer t None x) (lt-leb (2 ^ 63) n l))
+        at (inr l) = ap (λ (t : Bool). pick_finer t x None) (le-ltb n (2 ^ 63) l) ∙ sym (ap (λ (t : Bool). pick_finer t None x) (le-leb (2 ^ 63) n l))
 
-    go : (y : ℤ) (x : Finer) → pick_finer (ltb (mag y) (2 ^ 63)) x TooLarge ≡ pick_finer (beyond (2 ^ 63) (2 ^ 63) y) TooLarge x
+    go : (y : ℤ) (x : Option ℕ) → pick_finer (ltb (mag y) (2 ^ 63)) x None ≡ pick_finer (beyond (2 ^ 63) (2 ^ 63) y) None x
     go (pos n) x = swap n x
     go (negsuc n) x = swap n x

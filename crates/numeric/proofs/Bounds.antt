@@ -7,13 +7,13 @@ use Rattle.numeric.specs.declared.floats.Format.{Format}
 use Rattle.numeric.specs.declared.floats.Format.TheVariants.{Binary16, Binary32, Binary64}
 use Rattle.numeric.specs.declared.integers.Integer.{Integer}
 use Rattle.numeric.specs.declared.integers.Integer.TheVariants.{Int8, Int16, Int32, Int64, UInt8, UInt16, UInt32, UInt64}
-use Rattle.numeric.specs.declared.times.Finer.TheVariants.{Count}
 use Rattle.numeric.specs.Integers.{bits_of, integer_bytes, number_of, pattern, widened}
 use Rattle.numeric.specs.Floats.{precision_of, emax_of, width_of, float_bytes, sign_bit, integer_to_float, float_to_float}
 use Rattle.numeric.specs.Times.{finer, coarser}
 use Rattle.numeric.proofs.TwosComplement.{pattern_lt}
 use Rattle.numeric.proofs.Conversions.{fitting, integer_lt, converted_lt}
 use Rattle.numeric.proofs.Units.{count-is}
+use Rattle.std.specs.Prelude.{Some}
 
 pub width_is : (f : Format) → 2 * sign_bit (precision_of f) (emax_of f) ≡ 2 ^ width_of f
 width_is Binary16 = refl
@@ -33,7 +33,7 @@ pub widened_lt : (from to : Integer) (b : ℕ) → widened from to b < 2 ^ bits_
 unfolding widened
 widened_lt from to b = pattern_lt (bits_of to) (number_of from b)
 
-pub multiplied_lt : (z : ℤ) (k n : ℕ) → finer z k ≡ Count n → n < 2 ^ 64
+pub multiplied_lt : (z : ℤ) (k n : ℕ) → finer z k ≡ Some n → n < 2 ^ 64
 multiplied_lt z k n e = (count-is z k n e).1
 
 pub divided_lt : (z : ℤ) (k : ℕ) → pattern 64 (coarser z k) < 2 ^ 64

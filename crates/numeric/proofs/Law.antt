@@ -13,7 +13,6 @@ use Rattle.numeric.specs.declared.floats.Format.{Format}
 use Rattle.numeric.specs.declared.floats.Format.TheVariants.{Binary16, Binary32, Binary64}
 use Rattle.numeric.specs.declared.integers.Integer.{Integer}
 use Rattle.numeric.specs.declared.integers.Integer.TheVariants.{Int64}
-use Rattle.numeric.specs.declared.times.Finer.TheVariants.{Count, TooLarge}
 use Rattle.numeric.specs.Rounding.{hidden, scale, infinity, magnitude, IsRounded, rounded, PastMidpoint}
 use Rattle.numeric.specs.Integers.{lowest, highest, signed, number_of, pattern, widened}
 use Rattle.numeric.specs.Floats.{precision_of, emax_of, sign_of, unsigned_of, nan, finite, converted, integer_to_float, float_to_float}
@@ -24,6 +23,7 @@ use Rattle.numeric.proofs.Exact.{infinity-number, widened_exactly, widened-finit
 use Rattle.numeric.proofs.TwosComplement.{low-mag, high_mag, mag_of, widened-kept, number-zero}
 use Rattle.numeric.proofs.Conversions.{fitting, finite-below, infinite_below, converted-nan, number_sign, integer-below, integer_sign, rounded-none}
 use Rattle.numeric.proofs.Units.{count-is, large_is, coarser_le, lt_coarser, divided_is, finer-fits, finer_large}
+use Rattle.std.specs.Prelude.{Some, None}
 
 -- ---- the words of this file, at a format
 
@@ -203,16 +203,16 @@ within_64 z l = (low-mag z (2 ^ 63) l, high_mag z (2 ^ 63) l)
 pub only-within_64 : (z : ℤ) → lowest Int64 ≤ℤ z → z ≤ℤ highest Int64 → mag z < 2 ^ 63
 only-within_64 z a b = mag_of z (2 ^ 63) (pow_pos 63) a b
 
-pub multiplied : (z : ℤ) (k n : ℕ) → finer z k ≡ Count n → (mag (z *ℤ pos k) < 2 ^ 63) × (n < 2 ^ 64) × (signed 64 n ≡ z *ℤ pos k)
+pub multiplied : (z : ℤ) (k n : ℕ) → finer z k ≡ Some n → (mag (z *ℤ pos k) < 2 ^ 63) × (n < 2 ^ 64) × (signed 64 n ≡ z *ℤ pos k)
 multiplied z k n e = count-is z k n e
 
-pub fits_multiplied : (z : ℤ) (k : ℕ) → mag (z *ℤ pos k) < 2 ^ 63 → finer z k ≡ Count (pattern 64 (z *ℤ pos k))
+pub fits_multiplied : (z : ℤ) (k : ℕ) → mag (z *ℤ pos k) < 2 ^ 63 → finer z k ≡ Some (pattern 64 (z *ℤ pos k))
 fits_multiplied z k l = sym (finer-fits z (z *ℤ pos k) k refl l)
 
-pub too_large : (z : ℤ) (k : ℕ) → finer z k ≡ TooLarge → 2 ^ 63 ≤ mag (z *ℤ pos k)
+pub too_large : (z : ℤ) (k : ℕ) → finer z k ≡ None → 2 ^ 63 ≤ mag (z *ℤ pos k)
 too_large z k e = large_is z k e
 
-pub beyond_large : (z : ℤ) (k : ℕ) → 2 ^ 63 ≤ mag (z *ℤ pos k) → finer z k ≡ TooLarge
+pub beyond_large : (z : ℤ) (k : ℕ) → 2 ^ 63 ≤ mag (z *ℤ pos k) → finer z k ≡ None
 beyond_large z k l = sym (finer_large z (z *ℤ pos k) k refl l)
 
 -- ---- "or divide rounding down": q * k ≤ z < (q + 1) * k

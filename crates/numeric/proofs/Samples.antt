@@ -6,15 +6,14 @@ use Rattle.numeric.specs.declared.floats.Format.{Format}
 use Rattle.numeric.specs.declared.floats.Format.TheVariants.{Binary16, Binary32, Binary64}
 use Rattle.numeric.specs.declared.integers.Integer.{Integer}
 use Rattle.numeric.specs.declared.integers.Integer.TheVariants.{Int8, Int32, Int64, UInt8, UInt16}
-use Rattle.numeric.specs.declared.times.Finer.{Finer}
-use Rattle.numeric.specs.declared.times.Finer.TheVariants.{Count, TooLarge}
 use Rattle.numeric.specs.Rounding.{rounded, magnitude}
 use Rattle.numeric.specs.Integers.{signed, unsigned, number_of, pattern, widened}
 use Rattle.numeric.specs.Floats.{from_integer, converted, integer_to_float, float_to_float}
 use Rattle.numeric.specs.Times.{finer, coarser}
+use Rattle.std.specs.Prelude.{Option, Some, None}
 
 -- these open every definition that a sample computes through
-multiplied : ℕ → ℕ → Finer
+multiplied : ℕ → ℕ → Option ℕ
 unfolding finer signed pattern
 multiplied b k = finer (signed 64 b) k
 
@@ -35,20 +34,20 @@ unfolding widened number_of signed unsigned pattern
 wide from to b = widened from to b
 
 -- S5, S6: milliseconds to nanoseconds
-s5 : finer (signed 64 9_223_372_036_854) 1_000_000 ≡ Count 9_223_372_036_854_000_000
+s5 : finer (signed 64 9_223_372_036_854) 1_000_000 ≡ Some 9_223_372_036_854_000_000
 unfolding multiplied
 s5 = refl
 
-s6 : finer (signed 64 9_223_372_036_855) 1_000_000 ≡ TooLarge
+s6 : finer (signed 64 9_223_372_036_855) 1_000_000 ≡ None
 unfolding multiplied
 s6 = refl
 
 -- the same below zero: -9,223,372,036,854 and -9,223,372,036,855
-s5_below : finer (signed 64 0xffff_f79c_842f_a50a) 1_000_000 ≡ Count 0x8000_0000_000b_d680
+s5_below : finer (signed 64 0xffff_f79c_842f_a50a) 1_000_000 ≡ Some 0x8000_0000_000b_d680
 unfolding multiplied
 s5_below = refl
 
-s6_below : finer (signed 64 0xffff_f79c_842f_a509) 1_000_000 ≡ TooLarge
+s6_below : finer (signed 64 0xffff_f79c_842f_a509) 1_000_000 ≡ None
 unfolding multiplied
 s6_below = refl
 

@@ -3,14 +3,19 @@
 use mathlib.Core.Path.{◌≡◌, refl, sym, ap, ◌∙◌, subst}
 use mathlib.Core.Bool.{Bool, true, false, cond}
 use Prim.Native.Nat.{ℕ, zero, suc, ◌+◌, ◌-◌, ◌*◌, ◌/◌, ◌%◌, ◌^◌, ◌≤◌, ◌<◌, zero-le}
-use native.Mathlib.Nat.{le_trans, lt_of_lt_of_le, mul-le-mul_right, mod-lt, mod-eq_of_lt, zero-mod, div-eq_of_lt, pow-suc}
+use native.Mathlib.Nat.{le_trans, mul-le-mul_right, mod-lt, mod-eq_of_lt, zero-mod, div-eq_of_lt, pow-suc, mul-mod_left, suc-mul, add-mul, one-mul, div-lt_iff_lt-mul}
+use native.Mathlib.Decide.{dec_lt}
 use native.Mathlib.Omega.{arith}
-use borrow.Author.Tests.{eq-eqb, ne_eqb}
+use borrow.Author.Tests.{eq-eqb, ne_eqb, lt-ltb, le-ltb}
 use lib.Arith.{digits_div, digits_mod}
 use lib.Dec.{T, leb→le, le→leb, lit≤}
-use lib.IntN.{ℤ, pos, negsuc}
-use lib.Pow.{pow_pos, pow_mono, mod-pow-add}
-use lib.Signed.{mag, le_z, ◌≤ℤ◌}
+use lib.IntN.{ℤ, pos, negsuc, nat_abs}
+use lib.Pow.{pow_pos, pow_mono, pow-add, mod-pow-add, shl-shr}
+use lib.Signed.{mag, le_z, ◌≤ℤ◌, shr_z}
+use mir.Syntax.{w64, w128}
+use mir.Val.{to_z, of_z}
+use Rattle.std.proofs.lemmas.Nat.{div-add-mod'}
+use Rattle.std.proofs.lemmas.Int.{to_z-of_z}
 use Rattle.numeric.specs.declared.integers.Integer.{Integer}
 use Rattle.numeric.specs.declared.integers.Integer.TheVariants.{Int8, Int16, Int32, Int64, UInt8, UInt16, UInt32, UInt64}
 use Rattle.numeric.specs.Integers.{bits_of, is_signed, lowest, highest, signed, unsigned, number_of, pattern, widened}
@@ -225,67 +230,97 @@ number-zero i = go (is_signed i)
     go true = signed_low (bits_of i) 0 (pow_pos (bits_of i - 1))
     go false = ap pos (zero-mod (2 ^ bits_of i))
 
--- a negative number's magnitude is at most 2 ^ 63
-pub negative_lt : (i : Integer) (b n : ℕ) → negsuc n ≡ number_of i b → n < 2 ^ 63
+pub abs_le : (z : ℤ) → nat_abs z ≤ mag z + 1
+abs_le (pos n) = omega arith
+abs_le (negsuc n) = omega arith
+
+-- a number's magnitude is below 2 ^ 64
+pub number_lt : (i : Integer) (b : ℕ) → nat_abs (number_of i b) < 2 ^ 64
 unfolding number_of unsigned
-negative_lt i b n e = go (is_signed i) e
+number_lt i b = go (is_signed i)
   where
-    room : 2 ^ (bits_of i - 1) ≤ 2 ^ 63
-    room = let l : bits_of i - 1 ≤ 63 = omega (arith, bits_le i) in pow_mono l
-
-    go : (s : Bool) → negsuc n ≡ number_at s (bits_of i) b → n < 2 ^ 63
-    go true e = lt_of_lt_of_le (subst (λ (z : ℤ). mag z < 2 ^ (bits_of i - 1)) (sym e) (signed-mag (bits_of i) b)) room
-    go false e = absurd (subst (λ (z : ℤ). T (le_z (pos 0) z)) (sym e) (le→leb 0 (b % 2 ^ bits_of i) zero-le))
-
--- ---- what the code of `integers` computes. half is the weight of the top bit
+    go : (s : Bool) → nat_abs (number_at s (bits_of i) b) < 2 ^ 64
+    go true =
+        let l : bits_of i - 1 ≤ 63 = omega (arith, bits_le i) in
+        omega (arith, pow_mono l, signed-mag (bits_of i) b, abs_le (signed (bits_of i) b))
+    go false = omega (arith, pow_mono (bits_le i), mod-lt b (pow_pos (bits_of i)))
 
 -- a bit's part of a pattern
 pub sign_one : (x side : ℕ) → x % 2 * side ≤ 1 * side
 sign_one x side = mul-le-mul_right side (let m : x % 2 < 2 = mod-lt x (pow_pos 1) in omega arith)
 
-module _ (w b half : ℕ) (W : 0 < w) (H : half ≡ 2 ^ (w - 1)) where
-  pub half_pos : 0 < half
-  half_pos = subst (λ (x : ℕ). 0 < x) (sym H) (pow_pos (w - 1))
+-- ---- what the code computes by words of 64 bits
 
-  pub half_le : w ≤ 64 → half ≤ 2 ^ 63
-  half_le l = let k : w - 1 ≤ 63 = omega arith in subst (λ (x : ℕ). x ≤ 2 ^ 63) (sym H) (pow_mono k)
+-- a word read as signed
+pub word_signed : (b : ℕ) → b < 2 ^ 64 → to_z w64 b ≡ signed 64 b
+word_signed b l = go (dec_lt b (2 ^ 63))
+  where
+    go : Dec (b < 2 ^ 63) → to_z w64 b ≡ signed 64 b
+    go (yes h) = rw (lt-ltb b (2 ^ 63) h) (sym (signed_low 64 b h))
+    go (no h) = rw (le-ltb b (2 ^ 63) (omega arith)) (sym (signed_high 64 b (lit≤ tt) (omega arith) l))
 
-  pub low-is : b / half % 2 * half + b % half ≡ b % 2 ^ w
-  low-is = ap (λ (x : ℕ). b / x % 2 * x + b % x) H ∙ sym (split_low w b W)
+less_times : (a b k : ℕ) → b ≤ a → (a - b) * k + b * k ≡ a * k
+less_times a b k l = sym (add-mul (a - b) b k) ∙ ap (λ (x : ℕ). x * k) (let t : a - b + b ≡ a = omega arith in t)
 
-  pub low_fits : w ≤ 64 → b / half % 2 * half + b % half < 2 ^ 64
-  low_fits l = omega (arith, half_le l, half_pos, sign_one (b / half) half, mod-lt b half_pos)
+-- u bits above the w of a pattern are shifted out
+low-shift : (w u b : ℕ) → b * 2 ^ u % 2 ^ (w + u) ≡ b % 2 ^ w * 2 ^ u
+low-shift w u b =
+    mod-pow-add (b * 2 ^ u) w u
+    ∙ (let q : b * 2 ^ u / 2 ^ u ≡ b = shl-shr b u in
+    let r : b * 2 ^ u % 2 ^ u ≡ 0 = mul-mod_left b (2 ^ u) in
+    rw (q, r) (omega arith))
 
-  pub last-is : half - 1 + half ≡ 2 ^ w - 1
-  last-is = omega (arith, double w W, half_pos, H)
+module _ (w u b : ℕ) (E : w + u ≡ 64) where
+  top-bits : b * 2 ^ u % 2 ^ 64 ≡ b % 2 ^ w * 2 ^ u
+  top-bits = ap (λ (x : ℕ). b * 2 ^ u % 2 ^ x) (sym E) ∙ low-shift w u b
 
-  pub clear-is : b / half % 2 ≡ 0 → pos (b % half) ≡ signed w b
-  clear-is e = ap (λ (x : ℕ). pos (b % x)) H ∙ sym (signed-clear w b (ap (λ (x : ℕ). b / x % 2) (sym H) ∙ e))
+  pub shift_unsigned : b * 2 ^ u % 2 ^ 64 / 2 ^ u ≡ b % 2 ^ w
+  shift_unsigned = ap (λ (x : ℕ). x / 2 ^ u) top-bits ∙ shl-shr (b % 2 ^ w) u
 
-  pub set_is : (b / half % 2 ≡ 0 → ⊥) → negsuc (half - 1 - b % half) ≡ signed w b
-  set_is ne =
-      ap negsuc (let t : half - 1 - b % half ≡ half - suc (b % half) = omega arith in t) ∙ ap (λ (x : ℕ). negsuc (x - suc (b % x))) H
-      ∙ sym (signed-set w b (λ e. ne (ap (λ (x : ℕ). b / x % 2) H ∙ e)))
+  pub shift_signed : 0 < w → shr_z (to_z w64 (b * 2 ^ u % 2 ^ 64)) (2 ^ u) ≡ signed w b
+  shift_signed W = rw top-bits (go (top w b))
+    where
+      half : 2 ^ (w - 1) * 2 ^ u ≡ 2 ^ 63
+      half = sym (pow-add 2 (w - 1) u) ∙ ap (λ (x : ℕ). 2 ^ x) (let t : w - 1 + u ≡ 63 = omega (arith, E) in t)
 
--- the two cases of `number_of`
-pub number-signed : (i : Integer) (w b : ℕ) → w ≡ bits_of i → is_signed i ≡ true → signed w b ≡ number_of i b
-unfolding number_of
-number-signed i w b W S = ap (λ (x : ℕ). signed x b) W ∙ sym (ap (λ (t : Bool). number_at t (bits_of i) b) S)
+      rest : b % 2 ^ (w - 1) < 2 ^ (w - 1)
+      rest = mod-lt b (pow_pos (w - 1))
 
-pub number-unsigned : (i : Integer) (w b r : ℕ) → w ≡ bits_of i → is_signed i ≡ false → r ≡ b % 2 ^ w → pos r ≡ number_of i b
-unfolding number_of unsigned
-number-unsigned i w b r W S e = ap pos (e ∙ ap (λ (x : ℕ). b % 2 ^ x) W) ∙ sym (ap (λ (t : Bool). number_at t (bits_of i) b) S)
+      U : 0 < 2 ^ u
+      U = pow_pos u
 
-pub bits_at : (i : Integer) (w : ℕ) → w ≡ bits_of i → (0 < w) × (w ≤ 64)
-bits_at i w e = (subst (λ (x : ℕ). 0 < x) (sym e) (bits_pos i), subst (λ (x : ℕ). x ≤ 64) (sym e) (bits_le i))
+      -- the bits below the top one, shifted
+      below : b % 2 ^ (w - 1) * 2 ^ u + 2 ^ u ≤ 2 ^ 63
+      below =
+          let m : suc (b % 2 ^ (w - 1)) * 2 ^ u ≤ 2 ^ (w - 1) * 2 ^ u = mul-le-mul_right (2 ^ u) rest in
+          omega (arith, half, suc-mul (b % 2 ^ (w - 1)) (2 ^ u))
 
--- what is below a power of two, from its last number
-pub last-low : (w n l r : ℕ) → l ≡ 2 ^ w - 1 → r ≡ n % 2 ^ w → (r ≤ l) × (l - r ≡ pattern w (negsuc n))
+      go : Top w b → shr_z (to_z w64 (b % 2 ^ w * 2 ^ u)) (2 ^ u) ≡ signed w b
+      go (clear e s) =
+          let x : b % 2 ^ w ≡ b % 2 ^ (w - 1) = split_low w b W ∙ (rw e (omega arith)) in
+          rw (x, lt-ltb (b % 2 ^ (w - 1) * 2 ^ u) (2 ^ 63) (omega (arith, below, U)), shl-shr (b % 2 ^ (w - 1)) u, s)
+      go (set e s) =
+          let x : b % 2 ^ w * 2 ^ u ≡ 2 ^ 63 + b % 2 ^ (w - 1) * 2 ^ u =
+          ap (λ (y : ℕ). y * 2 ^ u) (split_low w b W ∙ (rw e)) ∙ add-mul (1 * 2 ^ (w - 1)) (b % 2 ^ (w - 1)) (2 ^ u)
+          ∙ (let t : 1 * 2 ^ (w - 1) * 2 ^ u ≡ 2 ^ 63 = rw one-mul half in rw t) in
+          let y : 2 ^ 64 - suc (2 ^ 63 + b % 2 ^ (w - 1) * 2 ^ u) ≡ (2 ^ (w - 1) - suc (b % 2 ^ (w - 1))) * 2 ^ u + (2 ^ u - 1) =
+          omega (arith, half, below, U, less_times (2 ^ (w - 1)) (suc (b % 2 ^ (w - 1))) (2 ^ u) rest, suc-mul (b % 2 ^ (w - 1)) (2 ^ u)) in
+          rw (x, le-ltb (2 ^ 63 + b % 2 ^ (w - 1) * 2 ^ u) (2 ^ 63) (omega arith), y, s)
+          (ap negsuc (digits_div (2 ^ (w - 1) - suc (b % 2 ^ (w - 1))) (omega (arith, U))))
+
+-- a number of 128 bits as bits, of which the lowest w are kept
+pub word_pattern : (w : ℕ) (z : ℤ) → w ≤ 64 → mag z < 2 ^ 127 → of_z w128 z % 2 ^ w ≡ pattern w z
 unfolding pattern
-last-low w n l r L R =
-    let m : n % 2 ^ w < 2 ^ w = mod-lt n (pow_pos w) in
-    (omega arith, (let t : l - r ≡ 2 ^ w - suc (n % 2 ^ w) = omega arith in t))
+word_pattern w (pos n) W l = refl
+word_pattern w (negsuc n) W l =
+    let P : 0 < 2 ^ w = pow_pos w in
+    let whole : 2 ^ (128 - w) * 2 ^ w ≡ 2 ^ 128 = sym (pow-add 2 (128 - w) w) ∙ ap (λ (x : ℕ). 2 ^ x) (let t : 128 - w + w ≡ 128 = omega arith in t) in
+    let parts : n / 2 ^ w * 2 ^ w + n % 2 ^ w ≡ n = div-add-mod' n (2 ^ w) in
+    let r : n % 2 ^ w < 2 ^ w = mod-lt n P in
+    let q : n / 2 ^ w < 2 ^ (128 - w) = (div-lt_iff_lt-mul P).1 (omega arith) in
+    let y : 2 ^ 128 - suc n ≡ (2 ^ (128 - w) - suc (n / 2 ^ w)) * 2 ^ w + (2 ^ w - suc (n % 2 ^ w)) =
+    omega (arith, less_times (2 ^ (128 - w)) (suc (n / 2 ^ w)) (2 ^ w) q, suc-mul (n / 2 ^ w) (2 ^ w)) in
+    rw y (digits_mod (2 ^ (128 - w) - suc (n / 2 ^ w)) (omega arith))
 
-pub low-pattern : (w n r : ℕ) → r ≡ n % 2 ^ w → r ≡ pattern w (pos n)
-unfolding pattern
-low-pattern w n r e = e
+-- what `integers::number` needs
+pub ruleset shifted = (to_z-of_z, shift_signed, shift_unsigned, bits_pos, bits_le)

@@ -1,11 +1,11 @@
 // Integers and floats to floats, as patterns in a u64. The bits above a number's own are not looked at.
-ghost use Rattle.std.specs.Prelude.{◌≡◌, ◌+◌, ◌-◌, ◌*◌, ◌<◌};
+ghost use Rattle.std.specs.Prelude.{◌≡◌, ◌<◌};
 ghost use Rattle.numeric.specs.Rounding.{infinity};
-ghost use Rattle.numeric.specs.Floats.{float_bytes, precision_of, emax_of, sign_bit, finite, converted, integer_to_float, float_to_float};
-ghost use Rattle.numeric.specs.code.Fitting.{Fitting};
+ghost use Rattle.numeric.specs.Floats.{float_bytes, finite, converted, integer_to_float, float_to_float};
+ghost use Rattle.numeric.specs.code.Answers.{IsBinaryOf};
 
-use crate::integers::{Integer, Whole, number};
-use crate::round::{power, round_to};
+use crate::integers::{Integer, number};
+use crate::round::{Binary, power, round_to};
 
 // IEEE 754's binary formats.
 #[derive(Clone, Copy)]
@@ -26,94 +26,77 @@ pub fn float_bytes(f: Format) -> u8
     }
 }
 
-fn precision(f: Format) -> u64
-    ensures { result ≡ precision_of f }
-{
-    match f {
-        Format::Binary16 => 11,
-        Format::Binary32 => 24,
-        Format::Binary64 => 53,
+impl From<Format> for Binary {
+    ghost from_gives = { λ f b. IsBinaryOf f b };
+
+    fn from(f: Format) -> Binary {
+        match f {
+            Format::Binary16 => Binary {
+                precision: 11,
+                max_exponent: 15,
+            },
+            Format::Binary32 => Binary {
+                precision: 24,
+                max_exponent: 127,
+            },
+            Format::Binary64 => Binary {
+                precision: 53,
+                max_exponent: 1023,
+            },
+        }
     }
-}
-
-fn max_exponent(f: Format) -> u64
-    ensures { result ≡ emax_of f }
-{
-    match f {
-        Format::Binary16 => 15,
-        Format::Binary32 => 127,
-        Format::Binary64 => 1023,
-    }
-}
-
-fn sign_bit(p: u64, emax: u64) -> u64
-    requires { Fitting p emax }
-    ensures { result ≡ sign_bit p emax }
-{
-    (2 * emax + 2) * power(p - 1)
-}
-
-fn infinity_of(p: u64, emax: u64) -> u64
-    requires { Fitting p emax }
-    ensures { result ≡ infinity p emax }
-{
-    (2 * emax + 1) * power(p - 1)
 }
 
 // The integer that the pattern b is of a kind, in a format.
+#[tactic(auto, using(crate::proofs::Conversions::of_integer), unfolding(crate::specs::Floats::integer_to_float))]
 pub fn from_integer(b: u64, from: Integer, to: Format) -> u64
     ensures { result ≡ integer_to_float from to b }
 {
-    let p = precision(to);
-    let emax = max_exponent(to);
-    match number(b, from) {
-        Whole::Pos(n) => round_to(n, 0, 0, p, emax),
-        Whole::NegSuc(n) => sign_bit(p, emax) + round_to(n + 1, 0, 0, p, emax),
+    let to = Binary::from(to);
+    let n = number(b, from);
+    let magnitude = round_to(n.unsigned_abs() as u64, 0, 0, to);
+    if n < 0 {
+        to.sign_bit() + magnitude
+    } else {
+        magnitude
     }
 }
 
-// The finite m of the format (p, emax), without a sign, in the format (q, gmax).
-fn convert_finite(m: u64, p: u64, emax: u64, q: u64, gmax: u64) -> u64
-    requires { Fitting p emax × Fitting q gmax × (m < infinity p emax) }
-    ensures { result ≡ finite p emax q gmax m }
+// The finite m of one format, without a sign, in another.
+fn convert_finite(m: u64, from: Binary, to: Binary) -> u64
+    requires { m < infinity from.precision from.max_exponent }
+    ensures { result ≡ finite from.precision from.max_exponent to.precision to.max_exponent m }
 {
-    let h = power(p - 1);
+    let h = from.hidden();
     let e = m / h;
     let t = m % h;
-    let scale = emax + p - 2;
     if e == 0 {
-        return round_to(t, 0, scale, q, gmax);
+        round_to(t, 0, from.scale(), to)
+    } else {
+        round_to(h + t, e - 1, from.scale(), to)
     }
-    round_to(h + t, e - 1, scale, q, gmax)
 }
 
-// The pattern b of the format (p, emax), in the format (q, gmax).
-fn convert_pattern(b: u64, p: u64, emax: u64, q: u64, gmax: u64) -> u64
-    requires { Fitting p emax × Fitting q gmax }
-    ensures { result ≡ converted p emax q gmax b }
+// The pattern b of one format, in another.
+fn convert_pattern(b: u64, from: Binary, to: Binary) -> u64
+    ensures { result ≡ converted from.precision from.max_exponent to.precision to.max_exponent b }
 {
-    let top = sign_bit(p, emax);
+    let top = from.sign_bit();
     let m = b % top;
-    let sign = b / top % 2 * sign_bit(q, gmax);
-    let inf = infinity_of(p, emax);
-    if m < inf {
-        return sign + convert_finite(m, p, emax, q, gmax);
+    let sign = b / top % 2 * to.sign_bit();
+    let infinity = from.infinity();
+    if m < infinity {
+        sign + convert_finite(m, from, to)
+    } else if m == infinity {
+        sign + to.infinity()
+    } else {
+        to.infinity() + power(to.precision - 2)
     }
-    if m == inf {
-        return sign + infinity_of(q, gmax);
-    }
-    infinity_of(q, gmax) + power(q - 2)
 }
 
 // The pattern b of one format, in another.
 pub fn convert(b: u64, from: Format, to: Format) -> u64
     ensures { result ≡ float_to_float from to b }
 {
-    convert_pattern(
-        b,
-        precision(from),
-        max_exponent(from),
-        precision(to),
-        max_exponent(to),
-    )
+    convert_pattern(b, from.into(), to.into())
 }

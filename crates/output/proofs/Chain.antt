@@ -13,8 +13,6 @@ use Rattle.layout.proofs.Ways.{clash}
 use Rattle.numeric.specs.Integers.{signed, pattern, widened}
 use Rattle.numeric.specs.Floats.{integer_to_float, float_to_float}
 use Rattle.numeric.specs.Times.{finer, coarser}
-use Rattle.numeric.specs.declared.times.Finer.{Finer}
-use Rattle.numeric.specs.declared.times.Finer.TheVariants.{Count, TooLarge}
 use Rattle.values.specs.Value.{Value, vnull, vnumber, vtext, voverflow, vstruct, vlist, varray, Values}
 use Rattle.plan.specs.Selector.{Selector, position, constant, cast, rename, struct_mapping, list_mapping, array_mapping, Selectors, snil, scons}
 use Rattle.plan.specs.Reach.{SelectorAt as Nth, s_here, s_there}
@@ -28,6 +26,7 @@ use Rattle.walk.specs.code.Values.{opened, given, value_node, within, state_valu
 use Rattle.output.specs.code.Chain.{ends, goes, casts, next_field, next_out, next_cast, next_part, next_element, next_of, Passed, p_here, p_goes, p_casts}
 use Rattle.output.specs.code.Chain.{cast_all}
 use Rattle.output.proofs.Within.{within_strict, moves-value}
+use Rattle.std.specs.Prelude.{Option, Some, None}
 
 pub goes_eq : {x y : State} → goes x ≡ goes y → x ≡ y
 goes_eq e = cc
@@ -75,9 +74,9 @@ pub converted : (P : Value → Type 0) → ((k : Leaf) (n : ℕ) → P (vnumber 
 unfolding convert convert_as rescaled counted
 converted P f g i k n = go (class_of i) (class_of k)
   where
-    times : (x : Finer) → P (counted k x)
-    times (Count m) = f k m
-    times TooLarge = g
+    times : (x : Option ℕ) → P (counted k x)
+    times (Some m) = f k m
+    times None = g
 
     scaled : (c : UnitChange) → P (rescaled c k n)
     scaled (multiply m) = times (finer (signed 64 n) m)

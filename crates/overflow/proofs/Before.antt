@@ -18,8 +18,6 @@ use Rattle.layout.specs.declared.leaf.Leaf.TheVariants.{Datetime}
 use Rattle.layout.proofs.Ways.{clash}
 use Rattle.rules.specs.declared.outcome.CastOption.{CastOption}
 use Rattle.rules.proofs.Casts.{Casts, from_null, integer-to-integer, integer_to_float_lem, float_to_float_lem, datetime-to-datetime}
-use Rattle.numeric.specs.declared.times.Finer.{Finer}
-use Rattle.numeric.specs.declared.times.Finer.TheVariants.{Count, TooLarge}
 use Rattle.numeric.specs.Integers.{signed, pattern}
 use Rattle.numeric.specs.Times.{finer, coarser}
 use Rattle.numeric.proofs.Beyond.{beyond, beyond-times, beyond-coarser}
@@ -32,6 +30,7 @@ use Rattle.plan.specs.Run.{cast_leaf}
 use Rattle.plan.specs.code.Fits.{FitsOver, over-null, over-number, over-text, over-datetime}
 use Rattle.overflow.specs.code.Want.{bounds, outside, Small, bounds_before, count_beyond, is_beyond}
 use Rattle.overflow.specs.declared.want.Bounds.{Bounds}
+use Rattle.std.specs.Prelude.{Option, Some, None}
 
 -- ---- bounds of counts
 
@@ -74,10 +73,10 @@ outside-min a b (negsuc n) h = leb-min b n h
 
 module _ {d : Bounds} (s : Small d) (k : Leaf) (n : ℕ) (t : Value → Bool) (counts : (m : ℕ) → t (vnumber k m) ≡ outside d (signed 64 m)) where
   module _ (f : ℕ) (h : 0 < f) where
-    multiplied : (x : Finer) → finer (signed 64 n) f ≡ x → t (counted k TooLarge) ≡ true → t (counted k x) ≡ outside (bounds_before (multiply f) d) (signed 64 n)
+    multiplied : (x : Option ℕ) → finer (signed 64 n) f ≡ x → t (counted k None) ≡ true → t (counted k x) ≡ outside (bounds_before (multiply f) d) (signed 64 n)
     unfolding counted bounds_before
-    multiplied (Count m) e o = counts m ∙ ap (outside d) (count-is (signed 64 n) f m e).2 ∙ outside-times d (signed 64 n) f h
-    multiplied TooLarge e o = o ∙ sym (outside-large s (signed 64 n *ℤ pos f) (large_is (signed 64 n) f e)) ∙ outside-times d (signed 64 n) f h
+    multiplied (Some m) e o = counts m ∙ ap (outside d) (count-is (signed 64 n) f m e).2 ∙ outside-times d (signed 64 n) f h
+    multiplied None e o = o ∙ sym (outside-large s (signed 64 n *ℤ pos f) (large_is (signed 64 n) f e)) ∙ outside-times d (signed 64 n) f h
 
     divided : t (vnumber k (pattern 64 (coarser (signed 64 n) f))) ≡ outside (bounds_before (divide f) d) (signed 64 n)
     unfolding bounds_before
@@ -87,7 +86,7 @@ module _ {d : Bounds} (s : Small d) (k : Leaf) (n : ℕ) (t : Value → Bool) (c
         ∙ outside-coarser d (signed 64 n) f h
         ∙ outside-min (d.above * f) (d.below * f) (signed 64 n) (signed-mag 64 n)
 
-  module _ (o : t (counted k TooLarge) ≡ true) where
+  module _ (o : t (counted k None) ≡ true) where
     times-by : (f : ℕ) → 0 < f → t (rescaled (multiply f) k n) ≡ outside (bounds_before (multiply f) d) (signed 64 n)
     unfolding rescaled
     times-by f h = multiplied f h (finer (signed 64 n) f) refl o

@@ -5,8 +5,6 @@ use mathlib.Core.Bool.{true}
 use Rattle.layout.specs.Bytes.{Bytes}
 use Rattle.layout.specs.Tree.{LeafType, leaf_of, DataType, leaf, struct, list, array, Fields}
 use Rattle.layout.specs.declared.leaf.Leaf.{Leaf}
-use Rattle.numeric.specs.declared.times.Finer.{Finer}
-use Rattle.numeric.specs.declared.times.Finer.TheVariants.{Count, TooLarge}
 use Rattle.numeric.specs.Integers.{signed}
 use Rattle.numeric.specs.Times.{finer}
 use Rattle.values.specs.Value.{Value, vnull, vnumber, vtext, voverflow, vstruct, vlist, varray, Values, vnil, vcons}
@@ -24,6 +22,7 @@ use Rattle.plan.proofs.Typed.{At, here, there, Typed, t_position, t_constant, t_
 use Rattle.plan.proofs.Preserve.{only, eval-over}
 use Rattle.plan.specs.Nullness.{Place, required, optional, novalue, Nullness, node, Nullnesses, nnil, ncons, top_of, inside_of, nullness_at, join_place, join}
 use Rattle.plan.specs.Nullness.{join_all, of_value, of_fields, of_elements, nullness_of, nullnesses_of}
+use Rattle.std.specs.Prelude.{Option, Some, None}
 
 pub data Present : Place → Type 0 where
   is_required : Present required
@@ -144,10 +143,10 @@ at-holds (there a) (over_cons f fs) (h_cons h hs) = at-holds a fs hs
 
 -- ---- casts: a number stays present
 
-counted-holds : {p : Place} {ns : Nullnesses} (k : Leaf) (f : Finer) → Present p → Holds (node p ns) (counted k f)
+counted-holds : {p : Place} {ns : Nullnesses} (k : Leaf) (f : Option ℕ) → Present p → Holds (node p ns) (counted k f)
 unfolding counted
-counted-holds k (Count m) h = h_number h
-counted-holds k TooLarge h = h_over h
+counted-holds k (Some m) h = h_number h
+counted-holds k None h = h_over h
 
 rescaled-holds : {p : Place} {ns : Nullnesses} (c : UnitChange) (k : Leaf) (n : ℕ) → Present p → Holds (node p ns) (rescaled c k n)
 unfolding rescaled

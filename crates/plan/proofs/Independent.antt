@@ -9,8 +9,6 @@ use Rattle.layout.specs.declared.leaf.Leaf.{Leaf}
 use Rattle.layout.proofs.Ways.{clash}
 use Rattle.values.specs.Value.{Value, vnull, vnumber, vtext, voverflow, vstruct, vlist, varray, Values, vnil, vcons}
 use Rattle.plan.specs.Selector.{Selector, position, constant, cast, rename, struct_mapping, list_mapping, array_mapping, Selectors, snil, scons}
-use Rattle.numeric.specs.declared.times.Finer.{Finer}
-use Rattle.numeric.specs.declared.times.Finer.TheVariants.{Count, TooLarge}
 use Rattle.numeric.specs.Integers.{signed}
 use Rattle.numeric.specs.Times.{finer}
 use Rattle.rules.specs.declared.kinds.Class.{Class}
@@ -21,6 +19,7 @@ use Rattle.plan.specs.code.Fallback.{Fallback, unless_over, cast_leaf_with, cast
 use Rattle.plan.specs.code.Formed.{Formed, f_position, f_constant, f_cast, f_rename, f_struct, f_list, f_array, FormedAll, f_nil, f_cons}
 use Rattle.plan.proofs.Results.{both, and-true}
 use Rattle.plan.proofs.Over.{fits-clean}
+use Rattle.std.specs.Prelude.{Option, Some, None}
 
 -- ---- equal but where the first has `voverflow`
 
@@ -160,10 +159,10 @@ module _ (c : Fallback) where
 
 -- ---- an output without fallbacks is clean
 
-unless_counted : (k : Leaf) (f : Finer) (w : Value) → clean w ≡ true → clean (unless_over (counted k f) w) ≡ true
+unless_counted : (k : Leaf) (f : Option ℕ) (w : Value) → clean w ≡ true → clean (unless_over (counted k f) w) ≡ true
 unfolding counted unless_over clean
-unless_counted k (Count n) w h = refl
-unless_counted k TooLarge w h = h
+unless_counted k (Some n) w h = refl
+unless_counted k None w h = h
 
 unless_rescaled : (c : UnitChange) (k : Leaf) (n : ℕ) (w : Value) → clean w ≡ true → clean (unless_over (rescaled c k n) w) ≡ true
 unfolding rescaled unless_over clean

@@ -20,8 +20,6 @@ use Rattle.rules.proofs.Casts.{Casts, from_null, integer-to-integer, integer_to_
 use Rattle.rules.proofs.Casts.{decimal-to-decimal}
 use Rattle.numeric.specs.declared.integers.Integer.{Integer}
 use Rattle.numeric.specs.declared.floats.Format.{Format}
-use Rattle.numeric.specs.declared.times.Finer.{Finer}
-use Rattle.numeric.specs.declared.times.Finer.TheVariants.{Count, TooLarge}
 use Rattle.numeric.specs.Integers.{bits_of, signed, widened}
 use Rattle.numeric.specs.Floats.{width_of, integer_to_float, float_to_float}
 use Rattle.numeric.specs.Times.{finer}
@@ -33,6 +31,7 @@ use Rattle.plan.specs.Convert.{UnitChange, multiply, divide, keep, unit_change, 
 use Rattle.plan.specs.Run.{cast_leaf}
 use Rattle.plan.specs.code.Fits.{FitsOver, over-null, over-number, over-text, over-datetime}
 use Rattle.plan.proofs.Results.{true≠false}
+use Rattle.std.specs.Prelude.{Option, Some, None}
 
 -- ---- the classes of the rules, as kinds of numbers
 
@@ -116,10 +115,10 @@ module _ (i t : Leaf) (n : ℕ) where
 number-over : (l : LeafType) {v : Value} {m : ℕ} → v ≡ vnumber (leaf_of l) m → m < patterns_of (leaf_of l) → within (leaf_of l) m ≡ true → FitsOver (leaf l) v
 number-over l e h t = rw e (over-number refl h t)
 
-counted-over : (v : TimeUnit) (z : Bytes) (f : Finer) → ((m : ℕ) → f ≡ Count m → m < 2 ^ 64) → FitsOver (leaf (datetime v z)) (counted (Leaf.Datetime v) f)
+counted-over : (v : TimeUnit) (z : Bytes) (f : Option ℕ) → ((m : ℕ) → f ≡ Some m → m < 2 ^ 64) → FitsOver (leaf (datetime v z)) (counted (Leaf.Datetime v) f)
 unfolding counted
-counted-over v z (Count m) h = over-number refl (h m refl) refl
-counted-over v z TooLarge h = over-datetime refl
+counted-over v z (Some m) h = over-number refl (h m refl) refl
+counted-over v z None h = over-datetime refl
 
 rescaled-over : (c : UnitChange) (v : TimeUnit) (z : Bytes) (n : ℕ) → n < 2 ^ 64 → FitsOver (leaf (datetime v z)) (rescaled c (Leaf.Datetime v) n)
 unfolding rescaled

@@ -21,8 +21,6 @@ use Rattle.rules.specs.Chain.{unit_option}
 use Rattle.rules.specs.Pairs.{cast_passes}
 use Rattle.rules.proofs.Casts.{Casts, from_null, integer-to-integer, integer_to_float_lem, float_to_float_lem, datetime-to-datetime, category_to-string}
 use Rattle.rules.proofs.Casts.{decimal-to-decimal, passes-casts}
-use Rattle.numeric.specs.declared.times.Finer.{Finer}
-use Rattle.numeric.specs.declared.times.Finer.TheVariants.{Count, TooLarge}
 use Rattle.numeric.specs.Integers.{signed}
 use Rattle.numeric.specs.Times.{finer}
 use Rattle.numeric.proofs.Units.{finer_large, large_is}
@@ -43,6 +41,7 @@ use Rattle.plan.proofs.Over.{fits-clean, all-clean, all-over}
 use Rattle.plan.proofs.Leaves.{integer-kind, float-kind, integers-convert, integer-float-convert, floats_convert}
 use Rattle.plan.proofs.Preserve.{eval-over, only}
 use Rattle.plan.proofs.Reading.{map_at}
+use Rattle.std.specs.Prelude.{Option, Some, None}
 
 -- ---- where `voverflow` stands in a value
 
@@ -232,10 +231,10 @@ empty-path e o = go (rw e at o)
     go : {p : List ℕ} → OverAt voverflow p → p ≡ []
     go itself = refl
 
-counted-made : (k : Leaf) (f : Finer) {p : List ℕ} → OverAt (counted k f) p → (f ≡ TooLarge) × (p ≡ [])
+counted-made : (k : Leaf) (f : Option ℕ) {p : List ℕ} → OverAt (counted k f) p → (f ≡ None) × (p ≡ [])
 unfolding counted
-counted-made k (Count n) o = never_number refl o
-counted-made k TooLarge o = (refl, empty-path refl o)
+counted-made k (Some n) o = never_number refl o
+counted-made k None o = (refl, empty-path refl o)
 
 rescaled-made : (u v : TimeUnit) (z : Bytes) (n : ℕ) {x : Value} {o : CastOption} {p : List ℕ} (c : UnitChange) → unit_change u v ≡ c → x ≡ vnumber
     (Datetime u) n → o ≡ unit_option u v

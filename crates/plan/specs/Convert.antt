@@ -6,12 +6,11 @@ use Rattle.layout.specs.declared.leaf.TimeUnit.TheVariants.{Nanoseconds, Microse
 use Rattle.layout.specs.declared.leaf.Leaf.{Leaf}
 use Rattle.rules.specs.declared.kinds.Class.{Class}
 use Rattle.rules.specs.Classes.{class_of}
-use Rattle.numeric.specs.declared.times.Finer.{Finer}
-use Rattle.numeric.specs.declared.times.Finer.TheVariants.{Count, TooLarge}
 use Rattle.numeric.specs.Integers.{signed, pattern, widened}
 use Rattle.numeric.specs.Floats.{integer_to_float, float_to_float}
 use Rattle.numeric.specs.Times.{finer, coarser}
 use Rattle.values.specs.Value.{Value, vnumber, voverflow}
+use Rattle.std.specs.Prelude.{Option, Some, None}
 
 -- "multiply by 1,000 or 1,000,000, or divide rounding down; a zone change keeps the count"
 pub data UnitChange : Type 0 where
@@ -31,9 +30,9 @@ unit_change Milliseconds Microseconds = multiply 1000
 unit_change Milliseconds Milliseconds = keep
 
 -- a product of the kind k, which may not fit 64 bits
-unfoldable pub counted : Leaf → Finer → Value
-counted k (Count n) = vnumber k n
-counted k TooLarge = voverflow
+unfoldable pub counted : Leaf → Option ℕ → Value
+counted k (Some n) = vnumber k n
+counted k None = voverflow
 
 -- the count n, of the kind k in its new unit
 unfoldable pub rescaled : UnitChange → Leaf → ℕ → Value

@@ -5,7 +5,6 @@ ghost use Rattle.std.specs.Prelude.{◌<◌};
 
 use crate::out::{put, put_digits, put_number};
 use layout::leaf::TimeUnit;
-use numeric::round::less;
 use std::io;
 
 const HALF: u64 = 0x8000_0000_0000_0000;
@@ -63,16 +62,16 @@ fn put_month_day(rt: &impl Print, day: u64) -> io::Result<()>
     put(rt, b"-")?;
     put_two(rt, (month + 2) % 12 + 1)?;
     put(rt, b"-")?;
-    put_two(rt, less(day + 1, before))
+    put_two(rt, (day + 1).saturating_sub(before))
 }
 
 // A day, counted from the start. Within 400 years a year's number is its days, without the leap days before, by 365.
 fn put_days(rt: &impl Print, days: u64) -> io::Result<()> {
     let in_era = days % ERA;
-    let leap_days = less(in_era / 1460 + in_era / 146_096, in_era / 36_524);
-    let year_of_era = less(in_era, leap_days) / 365;
-    let before = less(365 * year_of_era + year_of_era / 4, year_of_era / 100);
-    let day = less(in_era, before) % 366;
+    let leap_days = (in_era / 1460 + in_era / 146_096).saturating_sub(in_era / 36_524);
+    let year_of_era = in_era.saturating_sub(leap_days) / 365;
+    let before = (365 * year_of_era + year_of_era / 4).saturating_sub(year_of_era / 100);
+    let day = in_era.saturating_sub(before) % 366;
     let year = days / ERA % 2_000_000 * 400 + year_of_era;
     // January and February are the last months of the year that began in March.
     put_year(rt, year + day / 306)?;
@@ -84,7 +83,10 @@ pub fn put_date(rt: &impl Print, x: u64) -> io::Result<()> {
     if x < 0x8000_0000 {
         return put_days(rt, EPOCH + x);
     }
-    put_days(rt, less(EPOCH - 1, less(0xFFFF_FFFF, x)))
+    put_days(
+        rt,
+        (EPOCH - 1).saturating_sub(u64::from(u32::MAX).saturating_sub(x)),
+    )
 }
 
 // The whole seconds from the start of a count by its pattern, of which `second` are a second. A count below 0 is -(LAST
@@ -96,7 +98,7 @@ fn seconds_of(x: u64, second: u64) -> u64
         let q = x / second;
         return if q < HALF { START + q } else { START };
     }
-    less(START - 1, (LAST - x) / second)
+    (START - 1).saturating_sub((LAST - x) / second)
 }
 
 // What is left of it.
@@ -106,7 +108,7 @@ fn part_of(x: u64, second: u64) -> u64
     if x < HALF {
         return x % second;
     }
-    less(second - 1, (LAST - x) % second)
+    (second - 1).saturating_sub((LAST - x) % second)
 }
 
 // 2023-11-14T22:13:20

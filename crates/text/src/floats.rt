@@ -7,7 +7,6 @@ ghost use Rattle.text.specs.code.Decimal.{Words};
 use crate::decimal::{Fixed, Parts, is_zero, next_digit, parts_of, reduced, to_fixed};
 use crate::out::{put, put_hex, put_number};
 use numeric::floats::{Format, convert};
-use numeric::round::less;
 use std::io;
 
 const SIGN: u64 = 0x8000_0000_0000_0000;
@@ -96,7 +95,7 @@ fn put_fixed(rt: &impl Print, f: Fixed, n: u64) -> io::Result<()>
     if whole == 0 {
         return put_small(rt, high, low, n);
     }
-    put_digits(rt, high, low, less(n, k as u64))
+    put_digits(rt, high, low, n.saturating_sub(k as u64))
 }
 
 // How many digits a number has.

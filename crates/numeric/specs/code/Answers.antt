@@ -1,9 +1,10 @@
 -- What the answers of the code stand for.
-use Rattle.std.specs.Prelude.{◌-◌, ℤ, pos, negsuc}
-use Rattle.numeric.specs.declared.integers.Whole.{Whole}
-use Rattle.numeric.specs.declared.integers.Whole.TheVariants.{Pos, NegSuc}
+use Rattle.std.specs.Prelude.{◌≡◌}
+use Rattle.numeric.specs.declared.floats.Format.{Format}
+use Rattle.numeric.specs.declared.round.Binary.{Binary}
+use Rattle.numeric.specs.Floats.{precision_of, emax_of}
 
--- what the code's answer stands for
-abbrev pub whole_of : Whole → ℤ
-whole_of (Pos n) = pos n
-whole_of (NegSuc n) = negsuc n
+-- b has the precision and the largest exponent of f
+pub record IsBinaryOf (f : Format) (b : Binary) : Type 0 where
+  pub precision : b.precision ≡ precision_of f
+  pub max_exponent : b.max_exponent ≡ emax_of f

@@ -1,5 +1,5 @@
 -- What the code of conversions asks of a format.
-use Rattle.std.specs.Prelude.{ℕ, ◌-◌, ◌≤◌}
+use Rattle.std.specs.Prelude.{ℕ, ◌≤◌}
 
 -- what the code asks of a format: its patterns fit 64 bits
 pub record Fitting (p emax : ℕ) : Type 0 where

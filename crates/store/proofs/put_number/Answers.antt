@@ -1,20 +1,19 @@
--- `store::put_number` meets its contract: what is stored and what is still to be stored are together what was asked
--- for. Assumes nothing.
+-- `store::put_number` meets its contract. Assumes nothing.
 use native.Mathlib.Omega.{arith}
-use mathlib.Core.Path.{sym, ap, ◌∙◌}
+use mathlib.Core.Path.{◌≡◌, ◌∙◌}
+use Prim.Native.Nat.{◌+◌, ◌-◌}
 use Rattle.store.specs.code.Overlay.{overlay}
-use Rattle.store.proofs.Overlay.{overlay-little, little-none}
+use Rattle.store.specs.LittleEndian.{little_bytes}
+use Rattle.store.proofs.Overlay.{overlay-little}
 use Rattle.store.proofs.put_number.Goals as goal
 
-pub loop-left-preserved : goal.loop-left-preserved
-loop-left-preserved c = (
-  omega arith,
-  omega arith,
-  c.put.auto.out ∙ c.loop-left.invariant.2,
-  rw c.put.ensures
-      (overlay-little _ _ _ _ c.loop-left-test.true ∙ c.loop-left.invariant.3),
-)
+pub loop-to-preserved : goal.loop-to-preserved
+loop-to-preserved c =
+    let e : c.args.k + c.args.width - (c.loop-to.to + 1) ≡ c.args.k + c.args.width - c.loop-to.to - 1 = omega arith in
+    rw (c.put.ensures, e) (overlay-little c.loop-to.out c.loop-to.to (c.args.k + c.args.width - c.loop-to.to) c.loop-to.rest (omega arith) ∙ c.loop-to.invariant)
 
 pub returns : goal.returns
+unfolding overlay little_bytes
 returns c =
-    unfold overlay in sym (ap (overlay c.loop-left.out c.loop-left.to) (little-none c.loop-left.left c.loop-left.rest c.loop-left-test.false)) ∙ c.loop-left.invariant.3
+    let e : c.args.k + c.args.width - c.loop-to.to ≡ 0 = omega arith in
+    rw e at c.loop-to.invariant

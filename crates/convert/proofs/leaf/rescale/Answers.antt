@@ -10,13 +10,13 @@ pub divide-requires : goal.divide-requires
 divide-requires c =
     divides c.requires c.in-Divide.is
 
-pub returns-in-Count : goal.returns-in-Count
-returns-in-Count c =
-    λ k. rescaled-count k _ c.in-Multiply.is c.multiply.ensures c.in-Count.is
+pub returns-in-Some : goal.returns-in-Some
+returns-in-Some c =
+    λ k. rescaled-count k _ c.in-Multiply.is c.multiply.ensures c.in-Some.is
 
-pub returns-in-TooLarge : goal.returns-in-TooLarge
-returns-in-TooLarge c =
-    λ k. rescaled-over k _ c.in-Multiply.is c.multiply.ensures c.in-TooLarge.is
+pub returns-in-None : goal.returns-in-None
+returns-in-None c =
+    λ k. rescaled-over k _ c.in-Multiply.is c.multiply.ensures c.in-None.is
 
 pub returns-in-Divide : goal.returns-in-Divide
 returns-in-Divide c =

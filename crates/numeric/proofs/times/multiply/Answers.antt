@@ -1,43 +1,17 @@
--- `numeric::times::multiply` meets its contract. By the sign, and by whether the product fits. Assumes nothing.
-use Rattle.numeric.proofs.Units.{positive-fits, positive_large, negative_fits, negative_large}
-use native.Mathlib.Nat.{le-div_iff_mul-le, div-lt_iff_lt-mul}
-use native.Mathlib.Omega.{arith}
-use Prim.Native.Nat.{◌+◌, ◌-◌, ◌*◌, ◌/◌, ◌≤◌, ◌<◌}
+-- `numeric::times::multiply` meets its contract, by whether the product fits 64 bits. Assumes nothing.
+use mathlib.Core.Path.{sym, ◌∙◌}
+use Rattle.numeric.proofs.Units.{product_is, finer_ok, finer_err}
 use Rattle.numeric.proofs.times.multiply.Goals as goal
-
-pub overflow_mul-result : goal.overflow_mul-result
-overflow_mul-result c =
-    let l : c.args.b * c.args.k ≤ 9223372036854775807 = (le-div_iff_mul-le c.requires).0 c.if-b-k.true
-    in omega arith
-
-pub returns-then-b-k : goal.returns-then-b-k
-returns-then-b-k c =
-    let l : c.args.b * c.args.k ≤ 9223372036854775807 = (le-div_iff_mul-le c.requires).0 c.if-b-k.true
-    in positive-fits c.args.b c.args.k c.requires c.if-b-lt-HALF.true (omega arith)
-
-pub returns-then-b-lt-HALF : goal.returns-then-b-lt-HALF
-returns-then-b-lt-HALF c =
-    let l : 9223372036854775807 < c.args.b * c.args.k = (div-lt_iff_lt-mul c.requires).0 c.if-b-k.false in
-    positive_large c.args.b c.args.k c.requires c.if-b-lt-HALF.true (omega arith)
-
-pub overflow_mul-result-then-n-k : goal.overflow_mul-result-then-n-k
-overflow_mul-result-then-n-k c =
-    let g : 18446744073709551615 - c.args.b + 1 ≤ 9223372036854775808 / c.args.k = omega arith in let l :
-    (18446744073709551615 - c.args.b + 1) * c.args.k ≤ 9223372036854775808 = (le-div_iff_mul-le c.requires).0 g in omega arith
-
-pub overflow_sub-result-then-n-k : goal.overflow_sub-result-then-n-k
-overflow_sub-result-then-n-k c =
-    let g : 18446744073709551615 - c.args.b + 1 ≤ 9223372036854775808 / c.args.k = omega arith in let l :
-    (18446744073709551615 - c.args.b + 1) * c.args.k ≤ 9223372036854775808 = (le-div_iff_mul-le c.requires).0 g in omega arith
-
-pub returns-then-n-k : goal.returns-then-n-k
-returns-then-n-k c =
-    let g : 18446744073709551615 - c.args.b + 1 ≤ 9223372036854775808 / c.args.k = omega arith in let l :
-    (18446744073709551615 - c.args.b + 1) * c.args.k ≤ 9223372036854775808 = (le-div_iff_mul-le c.requires).0 g in negative_fits c.args.b c.args.k
-    c.requires c.if-b-lt-HALF.false c.ranges.b.fits l
 
 pub returns : goal.returns
 returns c =
-    let g : 9223372036854775808 / c.args.k < 18446744073709551615 - c.args.b + 1 = omega arith in let l :
-    9223372036854775808 < (18446744073709551615 - c.args.b + 1) * c.args.k = (div-lt_iff_lt-mul c.requires).0 g in negative_large c.args.b c.args.k
-    c.requires c.if-b-lt-HALF.false c.ranges.b.fits l
+    let p = product_is c.args.b c.args.k c.cast_signed.result c.from.result c.from-2.result c.ranges.b.fits c.ranges.k.fits
+    c.cast_signed.type_inv c.cast_signed.ensures c.from.type_inv c.from.ensures c.from-2.type_inv c.from-2.ensures in
+    rw c.cast_unsigned.ensures
+    (finer_ok c.try_from.result _ _ c.args.k c.try_from.ensures p c.in_ok-count.count (sym c.ok.ensures.value ∙ c.in_ok-count.was))
+
+pub returns-in_err-count : goal.returns-in_err-count
+returns-in_err-count c =
+    let p = product_is c.args.b c.args.k c.cast_signed.result c.from.result c.from-2.result c.ranges.b.fits c.ranges.k.fits
+    c.cast_signed.type_inv c.cast_signed.ensures c.from.type_inv c.from.ensures c.from-2.type_inv c.from-2.ensures in
+    c.from_residual.ensures ∙ finer_err c.try_from.result _ _ c.args.k c.try_from.ensures p (sym c.ok.ensures.value ∙ c.in_err-count.was)

@@ -1,9 +1,0 @@
--- `store::put` meets its contract.
--- Assumes nothing.
-use mathlib.Core.Path.{sym}
-use lib.Seq.{set_out}
-use Rattle.store.proofs.put.Goals as goal
-
-pub returns-else-k-out : goal.returns-else-k-out
-returns-else-k-out c =
-    sym (set_out _ _ _ c.if-k-out.false)
