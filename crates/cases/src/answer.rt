@@ -4,7 +4,7 @@ ghost use Rattle.std.specs.Prelude.{◌+◌, ◌*◌, ◌^◌, ◌<◌, ◌≡�
 use crate::buffers::plan_buffer;
 use crate::case::Outcome;
 use layout::bytes::same_bytes;
-use lines::{Decimal, has_bytes, number, take_bytes, word};
+use lines::{has_bytes, number, take_bytes, word};
 
 #[derive(Clone, Copy)]
 pub enum Expected {
@@ -23,10 +23,10 @@ fn answer(number: u32, rest: u32) -> u64
 pub fn expected_answer(line: &[u8], k: usize) -> Expected
     requires { k < 16 }
 {
-    let Decimal::Is(n) = number(word(line, k)) else {
+    let Some(n) = number(word(line, k)) else {
         return Expected::Malformed;
     };
-    let Decimal::Is(place) = number(word(line, k + 1)) else {
+    let Some(place) = number(word(line, k + 1)) else {
         return Expected::Malformed;
     };
     if word(line, k + 2).len() != 0 {

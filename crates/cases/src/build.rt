@@ -2,7 +2,7 @@
 use crate::answer::written;
 use crate::buffers::{filled_buffer, has_layouts, short_buffer};
 use crate::case::Outcome;
-use lines::{Decimal, has_bytes, number, room_in, take_bytes, word};
+use lines::{has_bytes, number, room_in, take_bytes, word};
 
 fn build_name(
     line: &[u8],
@@ -39,7 +39,7 @@ fn build_number(
 
 // build_name <policy> <buffer's length> <incoming> <target> <number> <rest>
 pub fn build_name_case(line: &[u8]) -> Outcome {
-    let Decimal::Is(policy) = number(word(line, 1)) else {
+    let Some(policy) = number(word(line, 1)) else {
         return Outcome::Malformed;
     };
     if !has_layouts(line, 3) {
@@ -56,13 +56,13 @@ pub fn build_name_case(line: &[u8]) -> Outcome {
 
 // build_number <policy> <source index> <owner> <buffer's length> <incoming> <target> <defaults> <number> <rest>
 pub fn build_number_case(line: &[u8]) -> Outcome {
-    let Decimal::Is(policy) = number(word(line, 1)) else {
+    let Some(policy) = number(word(line, 1)) else {
         return Outcome::Malformed;
     };
-    let Decimal::Is(source_index) = number(word(line, 2)) else {
+    let Some(source_index) = number(word(line, 2)) else {
         return Outcome::Malformed;
     };
-    let Decimal::Is(owner) = number(word(line, 3)) else {
+    let Some(owner) = number(word(line, 3)) else {
         return Outcome::Malformed;
     };
     if 65535 < owner {
