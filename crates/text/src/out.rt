@@ -27,9 +27,7 @@ pub fn put_hex(rt: &impl Print, n: u64, digits: usize) -> io::Result<()> {
 pub fn put_digits(rt: &impl Print, m: u64, count: usize) -> io::Result<()>
     requires { count ≤ 18 }
 {
-    let mut i = count;
-    while 0 < i {
-        i -= 1;
+    for i in (0..count).rev() {
         put_number(rt, m / power_of_ten(i) % 10)?;
     }
     Ok(())
@@ -50,15 +48,13 @@ pub fn put_count(rt: &impl Print, n: u64, what: &[u8]) -> io::Result<()> {
 pub fn deeper(level: u8) -> u8
     ensures { result ≡ min (level + 1) 255 }
 {
-    if level < 255 { level + 1 } else { 255 }
+    level.saturating_add(1)
 }
 
 // The spaces that a line of a level begins with.
 pub fn put_indent(rt: &impl Print, level: u8) -> io::Result<()> {
-    let mut i: u8 = 0;
-    while i < level {
+    for _ in 0..level {
         put(rt, b"    ")?;
-        i += 1;
     }
     Ok(())
 }
@@ -104,13 +100,8 @@ pub fn put_text(rt: &impl Print, s: &[u8]) -> io::Result<()> {
 
 // The text that stands at a span of `s`, if it lies inside.
 pub fn put_span(rt: &impl Print, s: &[u8], span: Span) -> io::Result<()> {
-    let start = span.start;
-    let len = span.len;
-    if s.len() < start {
-        return Ok(());
+    match s.get(span.start..).and_then(|rest| rest.get(..span.len)) {
+        Some(text) => put_text(rt, text),
+        None => Ok(()),
     }
-    if s.len() - start < len {
-        return Ok(());
-    }
-    put_text(rt, &s[start..start + len])
 }
