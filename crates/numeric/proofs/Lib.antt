@@ -10,4 +10,5 @@ pub mod Conversions
 pub mod TwosComplement
 pub mod Units
 pub mod Beyond
+pub mod Entries
 pub mod Magnitude

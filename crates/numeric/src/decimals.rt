@@ -3,11 +3,33 @@ ghost use Rattle.std.specs.Prelude.{◌≡◌, ◌^◌, ◌≤◌, ◌<◌};
 ghost use Rattle.numeric.specs.Integers.{signed};
 ghost use Rattle.numeric.specs.Decimals.{within_precision};
 
+const POWERS: [u64; 19] = [
+    1,
+    10,
+    100,
+    1000,
+    10000,
+    100000,
+    1000000,
+    10000000,
+    100000000,
+    1000000000,
+    10000000000,
+    100000000000,
+    1000000000000,
+    10000000000000,
+    100000000000000,
+    1000000000000000,
+    10000000000000000,
+    100000000000000000,
+    1000000000000000000,
+];
+
 pub fn power_of_ten(p: usize) -> u64
     requires { p ≤ 18 }
     ensures { (result ≡ 10 ^ p) × (0 < result) }
 {
-    10u64.pow(p as u32)
+    POWERS[p]
 }
 
 // Whether the pattern b is of a magnitude below ten to the precision; from 19 digits on every one is.

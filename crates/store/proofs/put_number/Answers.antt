@@ -7,13 +7,15 @@ use Rattle.store.specs.LittleEndian.{little_bytes}
 use Rattle.store.proofs.Overlay.{overlay-little}
 use Rattle.store.proofs.put_number.Goals as goal
 
-pub loop-to-preserved : goal.loop-to-preserved
-loop-to-preserved c =
-    let e : c.args.k + c.args.width - (c.loop-to.to + 1) ≡ c.args.k + c.args.width - c.loop-to.to - 1 = omega arith in
-    rw (c.put.ensures, e) (overlay-little c.loop-to.out c.loop-to.to (c.args.k + c.args.width - c.loop-to.to) c.loop-to.rest (omega arith) ∙ c.loop-to.invariant)
+pub loop-i-preserved : goal.loop-i-preserved
+loop-i-preserved c =
+    let e : c.args.width - (c.loop-i.i + 1) ≡ c.args.width - c.loop-i.i - 1 = omega arith in
+    let f : c.args.k + (c.loop-i.i + 1) ≡ c.args.k + c.loop-i.i + 1 = omega arith in
+    rw (c.put.ensures, e, f)
+    (overlay-little c.loop-i.out (c.args.k + c.loop-i.i) (c.args.width - c.loop-i.i) c.loop-i.rest (omega arith) ∙ c.loop-i.invariant)
 
 pub returns : goal.returns
 unfolding overlay little_bytes
 returns c =
-    let e : c.args.k + c.args.width - c.loop-to.to ≡ 0 = omega arith in
-    rw e at c.loop-to.invariant
+    let e : c.args.width - c.loop-i.i ≡ 0 = omega arith in
+    rw e at c.loop-i.invariant

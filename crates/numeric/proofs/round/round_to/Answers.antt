@@ -1,9 +1,10 @@
 -- `numeric::round::round_to` meets its contract. Assumes nothing.
 use mathlib.Core.Path.{sym, ◌∙◌}
+use native.Mathlib.Nat.{lt_of_lt_of_le}
 use native.Mathlib.Omega.{arith}
-use lib.Pow.{pow_pos}
-use Prim.Native.Nat.{◌+◌, ◌-◌, ◌*◌, ◌^◌, ◌<◌}
-use Rattle.numeric.proofs.Shifts.{rounded-zero, size_64, field_fits, round_is, round_large, round_kept, closest_le}
+use lib.Pow.{pow_pos, pow_mono}
+use Prim.Native.Nat.{◌+◌, ◌-◌, ◌*◌, ◌^◌, ◌≤◌, ◌<◌}
+use Rattle.numeric.proofs.Shifts.{rounded-zero, size_64, field_fits, round_is, round_large, round-kept, closest_le}
 use Rattle.numeric.proofs.round.round_to.Goals as goal
 
 pub returns-then-m-eq0 : goal.returns-then-m-eq0
@@ -18,7 +19,11 @@ returns-then-to-k c = c.infinity-infinity.ensures ∙ round_large c.args.m c.arg
 
 -- what `scaled` is handed has at most 53 digits before its point
 kept : (c : goal.After-hidden) → c.args.m * 2 ^ (c.args.e + c.scale.result) < 2 ^ (53 + (c.args.d + c.saturating_sub-k.result))
-kept c = rw c.scale.ensures (round_kept c.args.m c.args.e c.args.d c.args.to.precision c.args.to.max_exponent _ (omega arith) (cc) c.args.to.fits.digits)
+kept c =
+    let left = round-kept c.args.m c.args.e c.args.d c.args.to.precision c.args.to.max_exponent _ (omega arith) (cc) in
+    let le : c.args.to.precision + (c.args.d + c.saturating_sub-k.result) ≤ 53 + (c.args.d + c.saturating_sub-k.result) =
+    omega (arith, c.args.to.fits.digits) in
+    rw c.scale.ensures (lt_of_lt_of_le left (pow_mono le))
 
 pub scaled-requires : goal.scaled-requires
 scaled-requires c = (omega arith, kept c)
