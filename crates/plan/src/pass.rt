@@ -2,10 +2,10 @@
 ghost use Rattle.std.specs.Prelude.{◌≡◌};
 ghost use Rattle.layout.specs.code.Answers.{moved_of};
 ghost use Rattle.plan.specs.Read.{selector, selectors, deepest_selector};
-ghost use Rattle.plan.specs.code.Skips.{Skips};
+ghost use Rattle.plan.specs.code.Skips.{Skips, SkipIs};
 
 use crate::read::{is_position, read_one};
-use crate::skips::known_skip;
+use crate::skips::{Skip, known_skip};
 use layout::cursor::{Cursor, Moved};
 use layout::limits::DEEPEST_SELECTOR;
 
@@ -22,6 +22,28 @@ pub fn pass_selector(s: &[u8], c: Cursor, skips: &[u16]) -> Moved
     read_one(s, DEEPEST_SELECTOR, c, skips, &mut none)
 }
 
+// So many positions have an entry of the table together: behind them the next one begins.
+const TOGETHER: u16 = 43;
+
+// The positions in a row at `c`, of at most `most` selectors: few are passed over faster than the table is asked.
+fn positions_at(s: &[u8], c: Cursor, most: u16) -> Skip
+    ensures { SkipIs s.now c.at most result }
+{
+    let mut to = c.at;
+    let mut count: u16 = 0;
+    while count < most {
+        if count == TOGETHER {
+            return Skip { count, to };
+        }
+        if !is_position(s, DEEPEST_SELECTOR, Cursor { at: to }) {
+            return Skip { count, to };
+        }
+        to += 3;
+        count += 1;
+    }
+    Skip { count, to }
+}
+
 // `n` selectors.
 pub fn pass_selectors(s: &[u8], n: u16, c: Cursor, skips: &[u16]) -> Moved
     requires { Skips s.now skips.now }
@@ -35,9 +57,10 @@ pub fn pass_selectors(s: &[u8], n: u16, c: Cursor, skips: &[u16]) -> Moved
             d = Cursor { at: known.to };
             i += known.count;
         } else {
-            if is_position(s, DEEPEST_SELECTOR, d) {
-                d = Cursor { at: d.at + 3 };
-                i += 1;
+            let row = positions_at(s, d, n - i);
+            if row.count != 0 {
+                d = Cursor { at: row.to };
+                i += row.count;
             } else {
                 match pass_selector(s, d, skips) {
                     Moved::To(e) => {
