@@ -4,7 +4,7 @@ use mathlib.Core.Path.{◌≡◌, refl, sym, ap, subst, ◌∙◌}
 use mathlib.Core.Bool.{true}
 use Rattle.layout.specs.Bytes.{Bytes}
 use Rattle.layout.specs.Tree.{dtype_of}
-use Rattle.layout.specs.Layout.{kind, type as typeRead}
+use Rattle.layout.specs.Layout.{kind, text, type as typeRead}
 use Rattle.layout.specs.code.Stands.{TypeAt}
 use Rattle.layout.specs.code.Answers.{head_res}
 use Rattle.layout.specs.declared.columns.Position.{Position}
@@ -23,14 +23,15 @@ use Rattle.plan.specs.Run.{value_at, cast_leaf, cast_value, eval, clean}
 use Rattle.convert.specs.code.Converted.{value_of}
 use Rattle.convert.specs.declared.leaf.Converted.{Converted}
 use Rattle.walk.specs.code.Stands.{SelectorAt}
-use Rattle.walk.specs.code.Parts.{CastAt, RenameAt}
+use Rattle.walk.specs.code.Parts.{TextAt, OptionAt, CastAt, RenameAt}
 use Rattle.raw.specs.code.Number.{is_number, LeafAnswer, LeafIs}
 use Rattle.raw.specs.declared.leaf.LeafValue.{LeafValue}
 use Rattle.raw.proofs.Leaves.{is_nested}
 use Rattle.raw.proofs.Storing.{cast-kept}
 use Rattle.transfer.specs.code.Reaching.{takes, ReachedIs}
-use Rattle.transfer.specs.code.Chains.{ChainAnswer, ChainIs}
+use Rattle.transfer.specs.code.Chains.{ChainAnswer, ChainIs, ChainedAnswer, ChainedIs}
 use Rattle.transfer.specs.declared.chain.ChainValue.{ChainValue}
+use Rattle.transfer.specs.declared.chain.Chained.{Chained}
 use Rattle.transfer.specs.declared.leaf.Reached.{Reached}
 use Rattle.transfer.proofs.Origins.{position-value}
 use Rattle.transfer.proofs.Reaching.{reached_as, converted, cast_nested, cast_leaf_lem}
@@ -41,6 +42,9 @@ chain_as {x} {x'} {y} {y'} {q} e f C = subst (λ (z : Value). ChainIs x' z q) f 
 
 chain-to : {x y : Value} {q p : ChainValue} → ChainIs x y q → q ≡ p → ChainAnswer x y p
 chain-to {x} {y} C e = subst (λ (z : ChainValue). ChainAnswer x y z) e C.answer
+
+pub chained-to : {x y : Value} {e : ℕ} {r : Chained} {q : ChainValue} {c : Cursor} → ChainedIs x y e r → r ≡ Chained.To q c → ChainIs x y q × (c.at ≡ e)
+chained-to {x} {y} {e} R h = subst (λ (z : Chained). ChainedAnswer x y e z) h R.answer
 
 -- ---- the value that was taken
 
@@ -116,6 +120,13 @@ module _ {s : Bytes} {at : ℕ} (P : SelectorAt s at) (ρ : Values) where
       → ChainIs (eval ρ P.tree) (value_at ρ (takes P.tree)) r
   unfolding eval
   chain-rename K C = chain_as (sym (ap (eval ρ) K.is)) (ap (value_at ρ) (rename-takes K)) C
+
+  -- where they end
+  pub cast_end : {m : ℕ} (K : CastAt s at P m) {t r : ℕ} → t ≡ K.input.end → ((T : TypeAt One 16 s t) (O : OptionAt s T.end) → r ≡ O.end) → r ≡ P.end
+  cast_end K h g = g (type_moved K h) K.option ∙ K.ends.1
+
+  pub rename_end : {m : ℕ} (K : RenameAt s at P m) {d r : ℕ} → d ≡ K.input.end → ((N : TextAt s d) → r ≡ N.end) → r ≡ P.end
+  rename_end K h g = g (record { bytes = K.name.bytes; end = K.name.end; reads = ap (λ (o : ℕ). text s o) h ∙ K.name.reads }) ∙ K.ends
 
 -- ---- what is stored
 

@@ -11,7 +11,7 @@ ghost use Rattle.plan.specs.Run.{value_at, cast_leaf, cast_value, eval, clean};
 ghost use Rattle.walk.specs.code.Stands.{SelectorAt};
 ghost use Rattle.walk.specs.code.Parts.{CastAt};
 ghost use Rattle.transfer.specs.code.Reaching.{takes, NodeIn, ReachedIs};
-ghost use Rattle.transfer.specs.code.Chains.{ChainIs};
+ghost use Rattle.transfer.specs.code.Chains.{ChainIs, ChainedIs};
 
 use crate::leaf::{Node, Place, Reached, limited, put_node};
 use convert::leaf::{Converted, convert_leaf};
@@ -22,12 +22,20 @@ use layout::types::Head;
 use nodes::raw::NodeAt;
 use raw::leaf::{LeafValue, leaf_at};
 use walk::head::{SelectorHead, head, skip_selector};
+use walk::inputs::{name_end, option_end};
 
 // A number of a kind; or the value that was taken, which is no number.
 #[derive(Clone, Copy)]
 pub enum ChainValue {
     Number(Leaf, u64),
     Same,
+    Unknown,
+}
+
+// What a chain of casts gives, and where its selector ends: each cast's type stands behind its input.
+#[derive(Clone, Copy)]
+pub enum Chained {
+    To(ChainValue, Cursor),
     Unknown,
 }
 
@@ -108,25 +116,34 @@ pub fn chain_value(
     plan: &[u8],
     c: Cursor,
     levels: u8,
-) -> ChainValue
+) -> Chained
     requires { (x : Value) × NodeIn lay.now rec.now x node }
-    ensures { (ρ : Values) (P : SelectorAt plan.now c.at) → NodeIn lay.now rec.now (value_at ρ (takes P.tree)) node → ChainIs (eval ρ P.tree) (value_at ρ (takes P.tree)) result }
+    ensures { (ρ : Values) (P : SelectorAt plan.now c.at) → NodeIn lay.now rec.now (value_at ρ (takes P.tree)) node → ChainedIs (eval ρ P.tree) (value_at ρ (takes P.tree)) P.end result }
 {
     if levels == 0 {
-        return ChainValue::Unknown;
+        return Chained::Unknown;
     }
     match head(plan, c) {
-        SelectorHead::Position(_) => taken_leaf(lay, rec, node),
-        SelectorHead::Constant(_, _) => ChainValue::Unknown,
-        SelectorHead::Cast(input) => {
-            let q = chain_value(lay, rec, node, plan, input, levels - 1);
-            cast_by(q, plan, skip_selector(plan, input))
+        SelectorHead::Position(_) => {
+            Chained::To(taken_leaf(lay, rec, node), skip_selector(plan, c))
         }
-        SelectorHead::Rename(input) => chain_value(lay, rec, node, plan, input, levels - 1),
-        SelectorHead::Struct(_) => ChainValue::Unknown,
-        SelectorHead::List(_) => ChainValue::Unknown,
-        SelectorHead::Array(_) => ChainValue::Unknown,
-        SelectorHead::Refused => ChainValue::Unknown,
+        SelectorHead::Constant(_, _) => Chained::Unknown,
+        SelectorHead::Cast(input) => {
+            match chain_value(lay, rec, node, plan, input, levels - 1) {
+                Chained::To(q, t) => Chained::To(cast_by(q, plan, t), option_end(plan, t)),
+                Chained::Unknown => Chained::Unknown,
+            }
+        }
+        SelectorHead::Rename(input) => {
+            match chain_value(lay, rec, node, plan, input, levels - 1) {
+                Chained::To(q, d) => Chained::To(q, name_end(plan, d)),
+                Chained::Unknown => Chained::Unknown,
+            }
+        }
+        SelectorHead::Struct(_) => Chained::Unknown,
+        SelectorHead::List(_) => Chained::Unknown,
+        SelectorHead::Array(_) => Chained::Unknown,
+        SelectorHead::Refused => Chained::Unknown,
     }
 }
 
@@ -168,15 +185,8 @@ pub fn transfer_cast(
     requires rec_len_bound { (length rec.now ≤ longest_plan) × (place.k ≤ longest) }
     ensures { (ρ : Values) (P : SelectorAt plan.now place.selector.at) → NodeIn lay.now rec.now (value_at ρ (takes P.tree)) node → ReachedIs (clean (eval ρ P.tree)) (encode_value (eval ρ P.tree)) P.end out.old place.k result out.new }
 {
-    let q = chain_value(lay, rec, node, plan, place.selector, place.levels);
-    put_chain(
-        lay,
-        rec,
-        node,
-        q,
-        skip_selector(plan, place.selector),
-        out,
-        place.k,
-        ends,
-    )
+    match chain_value(lay, rec, node, plan, place.selector, place.levels) {
+        Chained::To(q, end) => put_chain(lay, rec, node, q, end, out, place.k, ends),
+        Chained::Unknown => Reached::Unknown,
+    }
 }

@@ -77,7 +77,7 @@ impl InputEnds {
 }
 
 // Of a cast's type and option.
-fn option_end(plan: &[u8], c: Cursor) -> Cursor
+pub fn option_end(plan: &[u8], c: Cursor) -> Cursor
     ensures { (T : TypeAt EditionOf.One 16 plan.now c.at) (O : OptionAt plan.now T.end) → result.at ≡ O.end }
 {
     match pass_type(plan, Edition::One, DEEPEST, c) {
@@ -90,7 +90,7 @@ fn option_end(plan: &[u8], c: Cursor) -> Cursor
 }
 
 // Of a name.
-fn name_end(plan: &[u8], c: Cursor) -> Cursor
+pub fn name_end(plan: &[u8], c: Cursor) -> Cursor
     ensures { (N : TextAt plan.now c.at) → result.at ≡ N.end }
 {
     match c.text(plan) {

@@ -1,6 +1,7 @@
 use Rattle.transfer.proofs.Reaching.{reached_end}
+use Rattle.transfer.proofs.Chaining.{chained-to}
 use Rattle.transfer.proofs.chain.transfer_cast.Goals as goal
 
-pub returns : goal.returns
-returns c =
-    λ ρ P N. reached_end (c.skip_selector.ensures P) (c.put_chain.ensures _ _ N (c.chain_value-q.ensures ρ P N))
+pub returns-in-To : goal.returns-in-To
+returns-in-To c =
+    λ ρ P N. let (C, e) = chained-to (c.chain_value.ensures ρ P N) c.in-To.is in reached_end e (c.put_chain.ensures _ _ N C)
