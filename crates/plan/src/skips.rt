@@ -25,6 +25,9 @@ use layout::bytes::wide;
 use layout::cursor::Cursor;
 use layout::limits::{DEEPEST_SELECTOR, LONGEST_PLAN};
 
+// As many bytes of the plan are worth an entry.
+pub const LONG: usize = 128;
+
 // How long a table is that has entries.
 pub const SKIPS: usize = 4608;
 
@@ -207,10 +210,10 @@ fn put_entry(skips: &mut [u16], i: usize, from: usize, count: u16, to: usize)
 fn is_long(from: Cursor, to: Cursor) -> bool
     ensures { result ≡ true → from.at + 128 ≤ to.at }
 {
-    if to.at < 128 {
+    if to.at < LONG {
         return false;
     }
-    if to.at - 128 < from.at {
+    if to.at - LONG < from.at {
         return false;
     }
     true
