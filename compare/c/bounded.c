@@ -342,6 +342,7 @@ int main(void) {
     slow_fields();
     slow_chains();
     slow_columns();
+    slow_rows();
     slow_marks();
     slow_runs();
     slow_tops();

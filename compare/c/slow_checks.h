@@ -291,6 +291,58 @@ static void slow_columns(void) {
     expect_check("casts of the last column", 33);
 }
 
+/* A name of so many bytes. */
+static void name_of(text *t, int length) {
+    put(t, (uint64_t)length, 1);
+    for (int i = 0; i < length; i++)
+        put(t, 'x', 1);
+}
+
+static void positions_in_row(text *t, int count, int k) {
+    put(t, (uint64_t)count, 2);
+    for (int i = 0; i < count; i++)
+        position(t, k);
+}
+
+/* In an element mappings one over another, whose codes begin where 128 bytes of the plan do: 32 steps through the
+ * entries of these bytes do not come to that of the innermost mapping's first fields. They are a cast and positions;
+ * the mapping over it has as many fields, of its last, then come mappings of one field, and the outermost. */
+static void rows_of(text *t, int mappings, int inner, int outer) {
+    mark(t, "PLN", 1);
+    put(t, 5, 1);
+    put(t, 0x0303, 2); /* two renames of position 0 */
+    position(t, 0);
+    name_of(t, 63);
+    name_of(t, 127 - (int)t->length);
+    for (int i = 0; i < mappings; i++)
+        put(t, 4, 1);
+    position(t, 0);
+    put(t, (uint64_t)inner, 2);
+    put(t, 2, 1);
+    position(t, 0);
+    put(t, 0x0203, 2); /* int16, Overflowing */
+    for (int i = 1; i < inner; i++)
+        position(t, 0);
+    positions_in_row(t, inner, inner - 1);
+    for (int i = 3; i < mappings; i++)
+        positions_in_row(t, 1, i == 3 ? inner - 1 : 0);
+    positions_in_row(t, outer, 0);
+}
+
+/* Rows of positions behind fields whose entry in the table of where selectors end is not found. */
+static void slow_rows(void) {
+    enum { MAPPINGS = 34, INNER = 8180, OUTER = 5300 };
+    taken_of(&incoming, 1, 0);
+    mark(&target, "LAY", 1);
+    name_of(&target, 50);
+    put(&target, 0x1213, 2);
+    put(&target, OUTER, 2);
+    for (int k = 0; k < OUTER; k++)
+        put(&target, 0x0200, 2);
+    rows_of(&plan, MAPPINGS, INNER, OUTER);
+    expect_check("5,300 fields behind rows of 8,180 in 34 mappings", 0);
+}
+
 /* Constants whose values pass over a type for each of their bytes. */
 static void slow_constants(void) {
     taken_of(&incoming, 1, 0);
